@@ -46,7 +46,7 @@ run "rm shop.seal && weft log --no-time files shop --adopt-store \"\$(weft line 
 run "weft check shop --kept elsewhere"
 run "weft exchange shop box-shop"
 # The line of the other history, signed and handed to the peer past weft: it has both now, and they are evidence.
-run "weft line shop --sign shop.key --out line > told && cat line line.sig > box-bank/shop/in/line"
+run "cp shop.anchor line && ssh-keygen -q -Y sign -f shop.key -n timeweave-line line && cat line line.sig > box-bank/shop/in/line"
 run "weft exchange bank box-bank"
 # The right one is put back, and all goes on.
 run "cp right/timeline.tw shop/timeline.tw && cp right.lines shop.lines && cp right.anchor shop.anchor && cp right.entries shop.entries && rm shop.seal"

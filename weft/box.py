@@ -1,7 +1,10 @@
 """A box: for each peer a folder of its name, in which whatever carries files finds and leaves them.
 
-    BOX/box.conf            settings, `name = value`: key, unsigned, files, bytes, silent
+    BOX/box.conf            settings, `name = value`: key, unsigned, files, bytes, silent; url PEER, seconds; publish, open, backup
     BOX/.own                the name of the service whose box it is, which its first turn notes
+    BOX/.of                 where the folder of the service is, as its last turn found it: nothing that is published lies there
+    BOX/.published          all lines that were published, each signed, in their order
+    BOX/.line               the last line of each part of the service, signed, as its last turn put it out
     BOX/allowed_signers     whose keys are whose, as ssh-keygen(1) has it
     BOX/PEER/in             what the peer put out for this service; nobody but the carrier writes it
     BOX/PEER/out            what is to be carried to the peer
@@ -19,13 +22,14 @@ from dataclasses import dataclass
 from pathlib import Path
 from typing import Collection, NamedTuple, Optional
 
-from weft import files
+from weft import files, signatures
 from weft.deciding.boxes import is_of_another
-from weft.deciding.going_on import is_name_of_part
+from weft.deciding.going_on import end_counts, is_name_of_part
+from weft.deciding.roads import Address, read_address
 from weft.deciding.signatures import Signed, cut_torn, read_signed_lines
 from weft.deciding.silence import Came, Heard, weigh_failure
 from weft.deciding.worst import worst_of
-from weft.lines import NAME, Kept, Line, read_kept, read_line
+from weft.lines import NAME, Kept, KeptLines, Line, read_kept, read_line
 from weft.statuses import Status
 from weft.texts import name_of, quoted
 from weft.trouble import Trouble
@@ -38,14 +42,25 @@ LONG = ("signed", "given", "got", "heard")
 
 
 class Settings(NamedTuple):
-    """What box.conf says: the key that own lines are signed with; whether unsigned messages are taken; how many files and bytes are read a night and
-    peer; and after how many turns in which nothing new came a peer's silence is told, 0 for never."""
+    """What box.conf says: the key that own lines are signed with; whether unsigned messages are taken; how many files and bytes are read, and fetched, a night and
+    peer, and for how many seconds; after how many turns in which nothing new came a peer's silence is told, 0 for never; by which address each peer publishes
+    for this service; where this one publishes, and for which peers openly, `*` for all; and the backup that is made before that."""
 
     key: Optional[Path] = None
     is_unsigned: bool = False
     files: int = 64
     bytes: int = 4 << 20
+    seconds: int = 120
     silent: int = 3
+    urls: tuple[tuple[str, str], ...] = ()
+    publish: Optional[Path] = None
+    is_open: tuple[str, ...] = ()
+    backup: Optional[Path] = None
+
+
+SETTINGS = "They are: key = FILE, unsigned = yes, files = 64, bytes = 4194304, seconds = 120, silent = 3, url PEER = https://HOST/PATH/, publish = FOLDER, open = PEER .., backup = FILE."
+PATHS = ("key", "publish", "backup")
+NUMBERS = {"files": "[1-9][0-9]{0,9}", "bytes": "[1-9][0-9]{0,9}", "seconds": "[1-9][0-9]{0,3}", "silent": "0|[1-9][0-9]{0,3}"}
 
 
 def read_settings(box: Path) -> Settings:
@@ -56,20 +71,31 @@ def read_settings(box: Path) -> Settings:
         if not line.strip() or line.lstrip().startswith("#"):
             continue
         name, _, value = (word.strip() for word in line.partition("="))
-        if name == "key" and value:
-            found = found._replace(key=box / os.path.expanduser(value))
-        elif name == "unsigned" and value in ("yes", "no"):
-            found = found._replace(is_unsigned=value == "yes")
-        elif name == "files" and re.fullmatch("[1-9][0-9]{0,9}", value):
-            found = found._replace(files=int(value))
-        elif name == "bytes" and re.fullmatch("[1-9][0-9]{0,9}", value):
-            found = found._replace(bytes=int(value))
-        elif name == "silent" and re.fullmatch("0|[1-9][0-9]{0,3}", value):
-            found = found._replace(silent=int(value))
-        else:
-            told = f"line {number} of {name_of(box / 'box.conf')} is no setting"
-            raise Trouble(Status.UNREADABLE, told, "They are: key = FILE, unsigned = yes, files = 64, bytes = 4194304, silent = 3.")
+        read = with_setting(found, box, name, value) if value else None
+        if read is None:
+            raise Trouble(Status.UNREADABLE, f"line {number} of {name_of(box / 'box.conf')} is no setting", SETTINGS)
+        found = read
     return found
+
+
+def with_setting(found: Settings, box: Path, name: str, value: str) -> Optional[Settings]:
+    """The settings with one more; None where it isn't known."""
+    if name in PATHS:
+        path = box / os.path.expanduser(value)
+        return {"key": found._replace(key=path), "publish": found._replace(publish=path), "backup": found._replace(backup=path)}[name]
+    if name == "unsigned" and value in ("yes", "no"):
+        return found._replace(is_unsigned=value == "yes")
+    if name in NUMBERS and re.fullmatch(NUMBERS[name], value):
+        number = int(value)
+        with_number = {"files": found._replace(files=number), "bytes": found._replace(bytes=number), "seconds": found._replace(seconds=number)}
+        return with_number.get(name, found._replace(silent=number))
+    if name == "open":
+        names = tuple(value.replace(",", " ").split())
+        return found._replace(is_open=names) if names == ("*",) or all(NAME.fullmatch(it) for it in names) else None
+    peer = name.removeprefix("url ").strip()
+    if name.startswith("url ") and NAME.fullmatch(peer) and isinstance(read_address(value), Address):
+        return found._replace(urls=(*(it for it in found.urls if it[0] != peer), (peer, value)))
+    return None
 
 
 class End(NamedTuple):
@@ -79,8 +105,8 @@ class End(NamedTuple):
     line: Line
 
 
-def claim(box: Path, name: str) -> None:
-    """Notes whose box it is, where nobody made a turn with it; raises Trouble where it is another service's."""
+def expect_own(box: Path, name: str) -> Optional[str]:
+    """The service whose box it is, where that is noted; raises Trouble where it is another one than this."""
     path = box / ".own"
     data = files.read_if_there(path, MOST_OWN)
     noted = None if data is None else data.decode("utf-8", "replace").removesuffix("\n")
@@ -90,8 +116,13 @@ def claim(box: Path, name: str) -> None:
             f"{name_of(box)} is the box of {quoted(noted or '')}, and not of {name}: nothing was made or put out",
             f"Name the box of {name}. If this one is to be its own from now on, take {name_of(path)} out of it.",
         )
-    if noted is None:
-        files.renew(path, f"{name}\n".encode())
+    return noted
+
+
+def claim(box: Path, name: str) -> None:
+    """Notes whose box it is, where nobody made a turn with it; raises Trouble where it is another service's."""
+    if expect_own(box, name) is None:
+        files.renew(box / ".own", f"{name}\n".encode())
 
 
 def opened_folder(folder: Path, below: list[str]) -> int:
@@ -172,7 +203,24 @@ class Peer:
         return part
 
     def end(self) -> Optional[End]:
-        """Where it ended, and as what it goes on; None of a part that goes on itself."""
+        """Where it ended, and as what it goes on; None of a part that goes on itself, as far as counts now."""
+        end = self.noted_end()
+        return end if end is not None and (self.settings.is_unsigned or self.is_end_good(end)) else None
+
+    def is_end_good(self, end: End) -> bool:
+        """Whether it has ended so, by the keys that are noted now."""
+        signers, part = self.folder.parent / "allowed_signers", self.part(end.name)
+        when = self.when_kept(end.line) if signatures.has_days(signers, self.name) else None
+        is_signed_now = any(signatures.checked(it, signers, when) is not None for it in self.signed_at(end.line.step) if it.line == end.line)
+        return end_counts(is_signed_now, signatures.fingerprints(signers, end.name), part.read("key").decode("ascii", "replace").strip())
+
+    def when_kept(self, line: Line) -> Optional[str]:
+        """When a line of it was kept first as signed, by the clock here; None where it wasn't."""
+        found = KeptLines([self.kept / "lines"]).all_at(self.name, line.step)
+        return min((it.date for it in found if it.line == line and it.how.startswith("signed by ")), default=None)
+
+    def noted_end(self) -> Optional[End]:
+        """What is noted of where it ended, whether or not that counts."""
         name, _, line = self.read("next").decode("ascii", "replace").removesuffix("\n").partition(" ")
         found = read_line(line)
         return End(name, found) if found is not None and is_name_of_part(self.first.name, name) else None
@@ -389,18 +437,19 @@ def has_incoming(folder: Path) -> bool:
     return True
 
 
-def parts_of(peer: Peer) -> list[Peer]:
-    """A peer, and behind it the further parts in which it went on."""
+def parts_of(peer: Peer, is_noted: bool = False) -> list[Peer]:
+    """A peer, and behind it the further parts in which it went on, as far as that counts, or as it is noted."""
     found = [peer]
-    while (end := found[-1].end()) is not None and end.name not in found[-1].names:
+    while (end := found[-1].noted_end() if is_noted else found[-1].end()) is not None and end.name not in found[-1].names:
         found.append(found[-1].goes_on_in(found[-1].part(end.name)))
     return found
 
 
 def find_peer(box: Path, name: str, settings: Settings) -> Peer:
-    """The peer of this name, or the part of a peer; where there is none, a new one."""
-    found = next((peer for peer in peers_of(box, (), settings)[0] if peer.name == name), None)
-    return found if found is not None else Peer(box, name, settings)
+    """The peer of this name, or the part of a peer, also one whose end doesn't count; where there is none, a new one."""
+    peers = peers_of(box, (), settings)[0]
+    noted = (part for peer in peers if peer.earlier is None for part in parts_of(Peer(box, peer.name, settings), is_noted=True))
+    return next((peer for peer in [*peers, *noted] if peer.name == name), Peer(box, name, settings))
 
 
 def peers_of(box: Path, own: Collection[str], settings: Settings) -> tuple[list[Peer], list[str]]:

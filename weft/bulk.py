@@ -7,6 +7,7 @@ from __future__ import annotations
 
 import argparse
 import functools
+import itertools
 import os
 from collections import Counter
 from concurrent.futures import Executor, ProcessPoolExecutor, as_completed
@@ -14,10 +15,10 @@ from concurrent.futures.process import BrokenProcessPool
 from pathlib import Path
 from typing import Collection, Iterator, NamedTuple, Optional
 
-from weft import choosing, clusters, files, formats, judges, lines, locks, outcomes, packages
+from weft import choosing, clusters, dated, files, formats, judges, lines, locks, outcomes, packages
 from weft.choosing import Judgement
 from weft.deciding import rows
-from weft.deciding.choosing import Headline
+from weft.deciding.choosing import Extent, Headline, list_received
 from weft.deciding.contradicting import find_pairs, find_two_lines, may_count, read_told
 from weft.deciding.rows import HEAD, NO_DIGEST, Row
 from weft.deciding.worst import worst_of
@@ -27,8 +28,9 @@ from weft.outcomes import Named
 from weft.output import say, say_json
 from weft.progress import Progress
 from weft.sentences import fill
+from weft.stamps import Days
 from weft.statuses import Status
-from weft.texts import beside, count_of, name_of, printable
+from weft.texts import MOST_SHOWN, beside, count_of, name_of, now, printable
 from weft.trouble import Trouble, of_machine
 
 PIECE, PIECES = 500, 64
@@ -106,16 +108,16 @@ def row_of(task: Task, name: str, kept: KeptLines, judge: Bench) -> Made:
     try:
         named = Named(name, data, formats.kind_of(data))
         with of_machine(name):
-            judgement = outcomes.judgement_of(judge, kept, [named], task.allow_carried)
+            judgement = choosing.with_held(judge, data, kept, outcomes.judgement_of(judge, kept, [named], task.allow_carried))
             outcome = outcomes.outcome_of(judge, kept, [named], judgement)
     except Trouble as trouble:
         return Made(row_of_trouble(name, len(data), digest, trouble), False)
     resting = "; ".join(f"{line.service} {line.step}" for line in judgement.lines)
     reason = shown_reason(reason_of(judgement, outcome))
     row = Row(shown_path(name), len(data), digest, outcome.headline.value, int(outcome.status), reason, resting)
-    if judgement.is_shown:
+    if judgement.is_shown or (judgement.history is not None and judgement.history.extent is Extent.PART):
         archive = formats.told_by(data, judgement.lines)
-        told = "" if outcome.is_refuted else "; ".join(line.text for line in outcomes.all_lines(judge, [named], judgement))
+        told = "" if outcome.is_refuted else "; ".join(line.text for line in outcomes.all_lines(judge, kept, [named], judgement, is_whole=False))
         told += WHOLE if judgement.history is not None else ""
         row = row._replace(told=told, archive=archive.text if archive is not None else "")
     return Made(row, False)
@@ -152,8 +154,10 @@ def cut_off(judgement: Judgement) -> list[str]:
 
 def shown_path(name: str) -> str:
     """The path of a file as the table has it, of each file another one: a backslash is escaped, as what isn't printable is, and as quotes are. One that begins as
-    a formula does begins with ./ there."""
-    return rows.read_as_table(printable(name.replace("\\", "\\\\")), "./")
+    a formula does begins with ./ there; behind one that is cut, since it is long, stands a digest of the whole."""
+    text = name.replace("\\", "\\\\")
+    end = rows.digest_of(os.fsencode(name))[:16] if len(text) > MOST_SHOWN else ""
+    return rows.read_as_table(printable(text) + end, "./")
 
 
 def shown_reason(text: str) -> str:
@@ -268,8 +272,22 @@ def judged(options: argparse.Namespace, kept: KeptLines, judge: Bench, executor:
     with locks.held(beside(state_of(table), ".lock"), 0, table):
         made = judge_folder(options, judge, executor, Folder(folder, names, text, title, state_of(table), workers))
         beside_others = held_together([made[name] for name in names], names, folder, kept, judge)
-        files.hand_out(table, table_of(title, [it.row for it in beside_others]))
+        made_rows = [with_day(it.row, kept, options.days) for it in beside_others]
+        files.hand_out(table, table_of(f"{title}; table made on {now()[:10]}. {fill('theorem')}", made_rows))
     return tell(options, table, beside_others, judge, kept)
+
+
+def with_day(row: Row, kept: KeptLines, days: Days) -> Row:
+    """The row, and where something is shown by when the lines that it rests on stood, as stamps of them say."""
+    if not row.verdict.startswith(Headline.SHOWN.value):
+        return row
+    return row._replace(day=dated.told_in_row(days, resting_of(row, kept)))
+
+
+def resting_of(row: Row, kept: KeptLines) -> list[Line]:
+    """The kept lines that a row rests on."""
+    places = [it.split(" ") for it in row.lines.split("; ") if it]
+    return [line for service, step in places if (line := kept.one(service, int(step))) is not None]
 
 
 def held_together(made: list[Made], names: list[str], folder: Path, kept: KeptLines, judge: Bench) -> list[Made]:
@@ -295,21 +313,26 @@ def held_together(made: list[Made], names: list[str], folder: Path, kept: KeptLi
 
 
 def all_told(made: list[Made], names: list[str], folder: Path, broken: Collection[str]) -> Iterator[tuple[int, Line]]:
-    """The lines that files tell, each with the place of its file; of a history behind all others those of the steps that others tell."""
+    """The lines that files tell, each with the place of its file; of a history behind all others those that it received, and those of the steps that others tell."""
     steps: dict[str, set[int]] = {}
-    histories = []
-    for place, it in enumerate(made):
-        for line in lines_of_row(it.row, broken):
-            steps.setdefault(line.service, set()).add(line.step)
-            yield place, line
-        if it.row.told.endswith(WHOLE):
-            histories.append(place)
+    histories = [place for place, it in enumerate(made) if it.row.told.endswith(WHOLE)]
+    told = [(place, line) for place, it in enumerate(made) for line in lines_of_row(it.row, broken)]
+    received = ((place, line) for place in histories for line in received_in(made[place].row, bytes_of(folder / names[place], made[place].row), broken))
+    for place, line in itertools.chain(told, received):
+        steps.setdefault(line.service, set()).add(line.step)
+        yield place, line
     for place in histories:
-        service = made[place].row.told.split(" ")[0]
+        service, bound = made[place].row.lines.split(" ")
         wanted = steps[service] - {line.step for line in lines_of_row(made[place].row, broken)}
         history = formats.timeline_of(bytes_of(folder / names[place], made[place].row)) if wanted else None
         if history is not None:
-            yield from ((place, Line(service, step, history.authenticators[step])) for step in sorted(wanted) if step <= history.last)
+            yield from ((place, Line(service, step, history.authenticators[step])) for step in sorted(wanted) if step <= int(bound))
+
+
+def received_in(row: Row, data: bytes, broken: Collection[str]) -> list[Line]:
+    """The lines that a history shows as received, up to the step of the line that its row rests on; none of a service that broke a rule."""
+    service, step = row.lines.split(" ")
+    return [line for line in list_received(formats.threads_of(data), int(step)) if may_count(line, service, broken)]
 
 
 def bytes_of(path: Path, row: Row) -> bytes:
@@ -321,7 +344,7 @@ def bytes_of(path: Path, row: Row) -> bytes:
 def lines_of_row(row: Row, broken: Collection[str]) -> list[Line]:
     """The lines that a file tells, as its row has them, but for what services that broke a rule received."""
     found, told = (lines.read_line(text) for text in row.told.removesuffix(WHOLE).split("; ")), read_told(row.archive)
-    return [line for line in found if line is not None and may_count(line, told, broken)]
+    return [line for line in found if line is not None and may_count(line, told.service if told is not None else None, broken)]
 
 
 def contradicted(row: Row, other: str) -> Row:
@@ -334,9 +357,8 @@ def contradicted(row: Row, other: str) -> Row:
 def file_and_anchors(path: Path, row: Row, kept: KeptLines) -> list[bytes]:
     """The bytes that the row is of, and those of the lines that it rests on; nothing where the file isn't the same any more."""
     data = bytes_of(path, row)
-    words = [it.split(" ") for it in row.lines.split("; ")]
-    found = [line for service, step in words if (line := kept.one(service, int(step))) is not None]
-    return [data, lines.anchors(found)] if data and len(found) == len(words) else []
+    found = resting_of(row, kept)
+    return [data, lines.anchors(found)] if data and found and len(found) == len(row.lines.split("; ")) else []
 
 
 class Folder(NamedTuple):

@@ -8,10 +8,11 @@ import functools
 import tempfile
 from bisect import bisect_left
 from pathlib import Path
-from typing import Callable, Iterable, Iterator, NamedTuple, Optional, Union
+from typing import Callable, Iterable, Iterator, NamedTuple, Optional, Sequence, Union
 
-from weft import asking, box, formats, joints, program
+from weft import asking, box, formats, joints, program, signatures
 from weft.box import Peer
+from weft.deciding.choosing import Needed, choose_holders
 from weft.deciding.doubting import find_doubted, list_trusted
 from weft.deciding.keeping import Counting, Mark, list_counting
 from weft.judges import Bench
@@ -20,7 +21,7 @@ from weft.own import OwnLines
 from weft.sentences import fill
 from weft.statuses import Status
 from weft.stores import Store
-from weft.texts import listed, name_of
+from weft.texts import listed, name_of, steps_of
 from weft.trouble import Trouble
 
 MOST_HOPS = 64
@@ -193,19 +194,21 @@ def lines_of_peer(peer: Peer) -> list[Union[Kept, Mark]]:
     a contradiction with them."""
     found = KeptLines()
     found.add_text(peer.kept / "lines", peer.read("lines").decode("utf-8", "replace"))
-    noted = joints.counting_keys(peer.folder.parent / "allowed_signers", peer)
+    signers = peer.folder.parent / "allowed_signers"
+    noted, late = joints.counting_keys(signers, peer), signatures.late_of(signers, peer.name, found.of(peer.name))
     counting: list[Union[Kept, Mark]] = []
     for service, step in sorted({(it.line.service, it.line.step) for it in found.all()} | found.marks.keys()):
         kept, marks = found.all_at(service, step), found.marks_at(service, step)
-        left = list_counting(kept, marks, noted) if service == peer.name else Counting(list(kept), list(marks))
+        left = list_counting(kept, marks, noted, late) if service == peer.name else Counting(list(kept), list(marks))
         counting += [*left.kept, *left.marks]
     return counting
 
 
 class Sources:
-    """What is at hand: stores, boxes with what peers handed out, files; and the lines that are held."""
+    """What is at hand: stores, boxes with what peers handed out, files; and the lines that are held: one's own, those of peers and stores too, or a reader's alone."""
 
-    def __init__(self, stores: list[Store], boxes: list[Path], hand: list[bytes], kept: KeptLines, judge: Bench):
+    def __init__(self, stores: list[Store], boxes: list[Path], hand: list[bytes], kept: KeptLines, judge: Bench, is_for_reader: bool = False):
+        self.is_for_reader = is_for_reader
         self.stores = {store.last().line.service: store for store in stores}
         self.store_edges = [StoreEdges(store, name) for name, store in sorted(self.stores.items())]
         self.judge, self.kept, self.hand = judge, kept, hand
@@ -218,6 +221,8 @@ class Sources:
             settings = box.read_settings(place)
             for peer in box.peers_of(place, (), settings)[0]:
                 self.peers.setdefault(peer.name, []).append(peer)
+        if is_for_reader:
+            return
         for peer in self.all_peers():
             for it in lines_of_peer(peer):
                 kept.add(it)
@@ -397,7 +402,7 @@ def planned(sources: Sources, hops: list[Hop], first: Event, second: Event) -> P
     held = {service: sources.top(service, step) for service, step in wanted.items()}
     tops = {service: step for service, step in held.items() if step is not None}
     if len(tops) < len(wanted):
-        raise no_lines([f"{service} from step {step} on" for service, step in wanted.items() if service not in tops])
+        raise no_lines(sources, [Needed(service, step) for service, step in wanted.items() if service not in tops])
     for service, step in tops.items():
         sources.kept.one(service, step)
     if given:
@@ -412,11 +417,26 @@ def planned(sources: Sources, hops: list[Hop], first: Event, second: Event) -> P
     return Plan(parts, hops)
 
 
-def no_lines(missing: list[str]) -> Trouble:
+def no_lines(sources: Sources, missing: Sequence[Needed]) -> Trouble:
     """That lines are missing, all of them, and from whom each may come."""
-    told = f"you hold no line of {listed(missing)}"
-    advice = f"Ask for each somebody who kept it, and not its service alone: a notary, another reader. Then keep it: weft keep. {fill('only now')}"
+    who, keep = ("the reader holds", "Then name them by --for") if sources.is_for_reader else ("you hold", "Then keep it: weft keep")
+    told = f"{who} no line of {listed([f'{it.service} from step {it.step} on{held_of(sources, it.service)}' for it in missing])}"
+    holders = [holders_told(sources, it) for it in missing]
+    advice = f"Ask for each somebody who kept it, and not its service alone: {''.join(f'{it} ' for it in holders if it)}a notary, another reader. {keep}. {fill('only now')}"
     return Trouble(Status.MISSING, told, advice)
+
+
+def held_of(sources: Sources, service: str) -> str:
+    """Of which steps of a service lines are held, where some are."""
+    steps = sources.kept.steps(service)
+    return f" (but of {steps_of([steps[-1]])} and before)" if steps else ""
+
+
+def holders_told(sources: Sources, needed: Needed) -> str:
+    """Which of the services of whom lines are held, of the peers and of one's own received such a line, as receipts tell it; nothing where none did."""
+    known = {*sources.kept.services(), *sources.peers, *sources.stores}
+    names = choose_holders(needed, ((hop.service, hop.step, hop.by) for hop in sources.tellers), known)
+    return f"of {needed.service} {listed(names)}, which received one;" if names else ""
 
 
 def expect_held(sources: Sources, second: Event) -> None:

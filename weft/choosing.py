@@ -3,11 +3,11 @@ it lacks."""
 
 from __future__ import annotations
 
-from typing import Iterable, NamedTuple, Optional
+from typing import Iterable, NamedTuple, Optional, Sequence
 
-from weft import formats
+from weft import formats, reports
 from weft.deciding import choosing
-from weft.deciding.choosing import Extent, HeldHistory
+from weft.deciding.choosing import Beside, Extent, HeldHistory
 from weft.deciding.signatures import find_signing_key
 from weft.files import AnyPath
 from weft.formats import Needed, ReadHistory
@@ -25,12 +25,14 @@ MOST_UNCOUNTED = 8
 
 
 class BoundHistory(NamedTuple):
-    """A history beside the kept lines of its service, the step up to which it is asked about, and its last step."""
+    """A history beside the kept lines of its service, the step up to which it is asked about, its last step, and its own lines of the steps of which kept ones
+    differ."""
 
     service: str
     held: HeldHistory
     wanted: int
     last: int
+    own: list[Line]
 
     @property
     def extent(self) -> Extent:
@@ -40,7 +42,7 @@ class BoundHistory(NamedTuple):
 
 class Judgement(NamedTuple):
     """A verdict, the call that it is of, and the lines that it rests on; where lines are missing, which, and where they can't be held
-    together, why not; then there is no verdict. Of a history how far it is bound."""
+    together, why not; then there is no verdict. Of a history how far it is bound; and of what a proof carries those that are kept lines (`held`)."""
 
     call: str
     verdict: Optional[Verdict]
@@ -48,6 +50,12 @@ class Judgement(NamedTuple):
     missing: list[Needed]
     hindrance: str = ""
     history: Optional[BoundHistory] = None
+    held: tuple[Line, ...] = ()
+
+    @property
+    def counting(self) -> list[Line]:
+        """All lines that it rests on: those that it was judged under, and the kept ones that the file carries."""
+        return [*self.lines, *self.held]
 
     @property
     def is_shown(self) -> bool:
@@ -89,6 +97,20 @@ def two_steps(service: str) -> str:
 def judge_proof(judge: Bench, data: bytes, kept: KeptLines, allow_carried: bool) -> Judgement:
     """That of a proof of a kind from 1 to 5."""
     return ask_judge(judge, "verify" if allow_carried else "strict", (data,), kept, formats.needed_by_proof(data))
+
+
+def with_held(judge: Bench, data: bytes, kept: KeptLines, found: Judgement) -> Judgement:
+    """The judgement of a proof beside the lines that it carries: one that was kept binds its hop as any other line does, and where each was, nothing rests on a word."""
+    verdict = found.verdict
+    if found.history is not None or found.call not in ("strict", "verify") or verdict is None:
+        return found
+    if verdict.reason[1:2] == ["Carried"]:
+        verdict = judge.judge("verify", data, anchors(found.lines))
+    carried = reports.read_report(verdict).carried if verdict.is_accepted else ()
+    held = tuple(line for line in carried if choosing.hold_line(line, (it.line for it in kept.at(line.service, line.step))) is Beside.SAME)
+    if len(held) < len(carried) or not held:
+        return found._replace(held=held)
+    return found._replace(call="verify", verdict=verdict, held=held)
 
 
 def judge_map(judge: Bench, low: bytes, high: bytes, kept: KeptLines) -> Judgement:
@@ -142,8 +164,13 @@ def judge_history(judge: Bench, data: bytes, kept: KeptLines, top: Optional[int]
     if top is not None and not 1 <= top <= history.last:
         raise Trouble(Status.USAGE, f"the history's last step is {history.last}, and --top is {top}", f"Name a step from 1 to {history.last}.")
     held = choosing.hold_history(history.authenticators, lines_of(kept, history.service))
-    bound = BoundHistory(history.service, held, top or history.last, history.last)
-    return judge_bound(judge, data, history, bound)
+    return judge_bound(judge, data, history, bound_history(history, held, top or history.last))
+
+
+def bound_history(history: ReadHistory, held: HeldHistory, wanted: int) -> BoundHistory:
+    """A history that was held against kept lines, and is asked about up to a step."""
+    own = [Line(history.service, line.step, history.authenticators[line.step]) for line in held.differing]
+    return BoundHistory(history.service, held, wanted, history.last, own)
 
 
 def lines_of(kept: KeptLines, service: str) -> list[Line]:
@@ -186,9 +213,9 @@ def audit(judge: Bench, data: bytes, line: Line, is_same: bool) -> Verdict:
 # ---- what is told of lines
 
 
-def told_kept(paths: Iterable[AnyPath]) -> str:
+def told_kept(paths: Optional[Sequence[AnyPath]]) -> list[str]:
     """Which files of kept lines were named in the place of the user's own one."""
-    return f"Under the lines of {listed([name_of(path) for path in paths])} (--kept), and not under those of your own file:"
+    return [f"Under the lines of {listed([name_of(path) for path in paths])} (--kept), and not under those of your own file:"] if paths else []
 
 
 def missing_sentences(missing: list[Needed], kept: KeptLines, proof: bytes = b"") -> list[str]:
@@ -263,18 +290,18 @@ def uncounted_sentences(kept: KeptLines, services: Iterable[str]) -> list[str]:
         keys = listed(sorted({find_signing_key(it.how) or "" for it in lines})[:MOST_UNCOUNTED])
         told.append(
             f"DOESN'T COUNT: {count_of(len(lines), 'line')} of {service} that you kept, of {of_steps}, signed by {keys}, which isn't noted of {service} in the file "
-            f"of signers. Was that key taken out since it was stolen, leave it so. Else note it (weft keep --signer {service} KEY.pub), name the file that has it "
-            "(--signers, or WEFT_SIGNERS), or say how the line came besides (weft keep FILE --by ..)."
+            "of signers, or not for the day when you kept it. Was that key taken out since it was stolen, or is it at its end, leave it so. Else note it "
+            f"(weft keep --signer {service} KEY.pub), name the file that has it (--signers, or WEFT_SIGNERS), or say how the line came besides (weft keep FILE --by ..)."
         )
     return told
 
 
 def resting(judgement: Judgement, kept: KeptLines) -> list[str]:
     """On whose lines a verdict rests, and how each came."""
-    if not judgement.lines:
+    if not judgement.counting:
         return []
     told = ["It rests on these lines:" if judgement.is_shown else "It was judged under these lines:"]
-    for line in judgement.lines:
+    for line in judgement.counting:
         came = "; ".join(it.told for it in kept.at(line.service, line.step))
         told.append(f"  {line.service}, step {line.step}, {line.authenticator[:16]}..: {came}")
     return told

@@ -4,16 +4,26 @@
 # A line for each word, with what it takes: DIR for a folder, FILE for a file, TEXT for what is typed by hand, .. for more of the part before it;
 # and its options, behind = what they take.
 _weft_forms=(
-    "line DIR --help --sign=FILE --out=FILE --wait=TEXT --json"
-    "keep FILE --help --by=TEXT --signer=TEXT,FILE --beside --choose --kept=FILE --signers=FILE --json"
+    "line DIR --help --sign=FILE --introduce=FILE --out=FILE --letter=FILE --wait=TEXT --json"
+    "keep FILE --help --by=TEXT --signer=TEXT,FILE --beside --introduced=FILE --choose --found --stamp=FILE --authority=TEXT,FILE --authorities=DIR --kept=FILE --signers=FILE --json"
     "tell FILE .. --help --json"
-    "judge FILE .. --help --kept=FILE --signers=FILE --file=FILE --audit=FILE --carried --top=TEXT --svg=FILE --many=DIR --table=FILE --workers=TEXT --dask=TEXT --tls=FILE,FILE,FILE --reference --json"
+    "list FILE TEXT .. --help --json"
+    "judge FILE .. --help --kept=FILE --signers=FILE --authorities=DIR --file=FILE --audit=FILE --carried --top=TEXT --svg=FILE --report=FILE --many=DIR --table=FILE --workers=TEXT --dask=TEXT --tls=FILE,FILE,FILE --reference --json"
     "log DIR DIR TEXT --help --all --no-time --gone --all-read=TEXT --workers=TEXT --adopt-store=FILE --wait=TEXT --unproved --json"
-    "prove DIR FILE --help --step=TEXT --top=TEXT --out=FILE --json"
+    "record DIR FILE .. --help --name=TEXT --event=TEXT --key=FILE --input=TEXT --serve --idle=TEXT --no-time --adopt-store=FILE --wait=TEXT --unproved --json"
+    "find DIR TEXT .. --help --text=TEXT --all --proofs=DIR --json"
+    "prove DIR FILE --help --many --step=TEXT --top=TEXT --for=FILE --out=FILE --json"
     "exchange DIR DIR --help --despite=TEXT --look --adopt-store=FILE --wait=TEXT --unproved --json"
-    "accept DIR TEXT FILE --help --key=FILE --beside --yes=TEXT --json"
-    "chain FILE FILE --help --store=DIR --box=DIR --hand=FILE --kept=FILE --signers=FILE --out=FILE --svg=FILE --reference --json"
+    "fetch TEXT DIR --help --wait=TEXT --json"
+    "publish DIR FILE --help --wait=TEXT --json"
+    "accept DIR TEXT FILE --help --key=FILE --beside --introduced=FILE --yes=TEXT --json"
+    "chain FILE FILE --help --store=DIR --box=DIR --hand=FILE --kept=FILE --signers=FILE --for=FILE --out=FILE --svg=FILE --reference --json"
     "check DIR --help --all --entries --kept=FILE --signers=FILE --workers=TEXT --wait=TEXT --json"
+    "backup DIR DIR TEXT --help --keys --wait=TEXT --json"
+    "restore FILE DIR DIR --help --held=FILE --key=FILE --wait=TEXT --json"
+    "status DIR DIR --help --days=TEXT --json"
+    "stamp FILE --help --url=TEXT --renew=FILE --out=FILE --kept=FILE --authorities=DIR --seconds=TEXT --json"
+    "bundle FILE FILE --help --file=FILE --line=FILE --kept=FILE --reference --json"
 )
 
 # Offers the folders, files or words that may stand next.

@@ -10,8 +10,8 @@ from typing import Iterator
 from weft.output import say_whole
 from weft.words import WORDS, module_of
 
-FOLDERS = ("DIR", "BOX", "SERVICE", "FOLDER")
-FILES = ("FILE", "PROOF", "HISTORY", "F", "OUT", "KEY", "KEY.pub", "LINE", "EARLIER", "LATER", "CA", "CERT")
+FOLDERS = ("DIR", "BOX", "BOX/PEER", "SERVICE", "FOLDER")
+FILES = ("FILE", "DIR|HISTORY", "PROOF", "HISTORY", "F", "OUT", "OUT.html", "KEY", "KEY.pub", "LINE", "LINES", "STAMP", "EARLIER", "LATER", "CA", "CERT")
 
 HEAD = """# Completion of the words of `weft` in bash, made by `python3 -m weft.completion`. `make install` copies it to
 # share/bash-completion/completions/weft; `source weft/completion.bash` is enough to try it.

@@ -6,12 +6,13 @@ import os
 import tempfile
 import time
 from dataclasses import dataclass
+from pathlib import Path
 from typing import IO, Iterator, NamedTuple, Optional
 
 from weft import logs
 from weft.deciding import gone
 from weft.deciding.gone import GONE, Fate
-from weft.deciding.known import Change, Head, Known, Lost, is_full_due, weigh_change
+from weft.deciding.known import Change, Head, Known, Lost, is_full_due, is_other_folder, sign_of, weigh_change
 from weft.entries import event_of, read_event
 from weft.lines import Line
 from weft.logs import Log
@@ -58,11 +59,12 @@ class Counts:
 class Day:
     """A run of a log over a folder."""
 
-    def __init__(self, log: Log, wanted: Wanted):
+    def __init__(self, log: Log, wanted: Wanted, folder: Path):
         self.log, self.wanted, self.began = log, wanted, int(time.time())
-        self.records = Records(log.known, log.all_entries)
+        self.records, self.folder = Records(log.known, log.all_entries), sign_of(os.fsencode(os.path.realpath(folder)))
+        self.is_elsewhere = is_other_folder(self.records.head, self.folder)
         full = self.records.head.full if self.records.head is not None else None
-        self.is_full = is_full_due(full, self.began, wanted.days)
+        self.is_full = wanted.is_all or is_full_due(full, self.began, wanted.days)
         if self.is_full or not self.records.ends_with_entries:
             log.expect_all_entries(self.is_full)
         else:
@@ -142,7 +144,7 @@ class Day:
         parts = self.log.all_entries
         size = parts[-1].size()
         drops = (bool(self.counts.gone) and self.logs(Fate.GONE), bool(self.counts.replaced) and self.logs(Fate.REPLACED))
-        return Head(self.full, len(parts), size, parts[-1].tail(size), *drops)
+        return Head(self.full, len(parts), size, parts[-1].tail(size), *drops, self.folder)
 
 
 def known_now(seen: Seen) -> Optional[Known]:

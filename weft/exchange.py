@@ -11,9 +11,10 @@ from itertools import chain
 from pathlib import Path
 from typing import Collection, Iterator, NamedTuple, Optional, Sequence
 
-from weft import asking, files, formats, hearing, joints, looking, own, parts, signatures
+from weft import asking, files, formats, hearing, joints, looking, own, parts, publishing, signatures
 from weft.box import Peer, Settings, has_incoming, peers_of
 from weft.deciding.boxes import may_be_meant
+from weft.deciding.choosing import Beside, hold_line
 from weft.deciding.forks import FILE_NAME, MOST_AT_STEP, Finding, Fork, find_contradicting, may_write_fork, name_fork_file, read_forks, weigh_contradiction
 from weft.deciding.going_on import is_name_of_part, must_go_on
 from weft.deciding.keeping import Outcome, list_counting, standing_of
@@ -23,7 +24,9 @@ from weft.deciding.recording import choose_other_start, may_note_recorded
 from weft.deciding.restoring import DAY, Begun, Go, Look, Told, Word, judge_turn, must_begin_anew, must_look, when_begun
 from weft.deciding.sharing import choose_handed_back, choose_names, choose_receipts, is_first_hand, keep_latest, move_cursor, order_lines, place_end
 from weft.deciding.signatures import PublicKey, Signed, read_signed_line, read_signed_lines
+from weft.deciding.standing import Against, Command
 from weft.deciding.silence import Heard, choose_last_heard, weigh_heard
+from weft.deciding.told import By, Row, choose_told
 from weft.deciding.worst import worst_of
 from weft.formats import Message
 from weft.joints import Follower
@@ -31,9 +34,11 @@ from weft.judges import Bench
 from weft.lines import Kept, KeptLines, Line, keep, kept_now, read_line
 from weft.links import Links
 from weft.looking import Note, Notes
-from weft.own import OwnLines
-from weft.parts import Next, Part
+from weft.own import OwnLines, ToldLines
+from weft.parts import Part
+from weft.recorded import is_log, strange_steps
 from weft.shown import Answers
+from weft.standing import Standing
 from weft.statuses import Status
 from weft.texts import beside, name_of, now, printable
 from weft.trouble import Trouble
@@ -80,10 +85,9 @@ class Turn:
     """A turn of a service, in its last part, with the peers of a box, which goes on despite lines that some of them hand back; where the part behind that is
     being made already, that is made first."""
 
-    def __init__(
-        self, found: Sequence[Part], box: Path, settings: Settings, judge: Bench, despite: list[str], named: Optional[Line], new: Optional[Next], kept: KeptLines
-    ):
-        self.box, self.settings, self.judge, self.despite, self.named, self.new, self.kept = box, settings, judge, despite, named, new, kept
+    def __init__(self, standing: Standing, box: Path, settings: Settings, judge: Bench, despite: list[str], named: Optional[Line]):
+        self.box, self.settings, self.judge, self.despite, self.named = box, settings, judge, despite, named
+        self.standing, self.new, self.kept, found = standing, standing.new, standing.kept, standing.made
         self.signers = box / "allowed_signers"
         self.all_peers, self.strange = peers_of(box, [part.last.service for part in found], settings)
         self.notes = Notes(box)
@@ -97,6 +101,7 @@ class Turn:
         self.keys: dict[Signed, Optional[str]] = {}
         self.handed: dict[Signed, Signed] = {}  # (each line is held once, however many peers hand it on)
         self.own: dict[Signed, bool] = {}
+        self.signed_now: dict[Line, Signed] = {}
         self.status = Status.DONE
         self.is_made = True
         self.told: list[str] = []
@@ -153,10 +158,7 @@ class Turn:
         """Whether the turn may be made: it waits for peers' words where somebody looks, and where the store or the box may come from a backup. Raises Trouble
         where the store isn't the one whose lines went out."""
         if self.named is not None:
-            self.lines.adopt(self.store, self.judge, self.last, self.named)
-        self.lines.check(self.store, self.judge, self.last)
-        for part in self.former:
-            self.lines_of(part).compare(part.store, self.judge, part.last)
+            self.lines.expect_named(self.store, self.judge, self.last, self.named)
         _ = self.own_key  # (a key without a public half ends the turn before anything is made)
         returned = []
         for peer in self.peers:
@@ -165,22 +167,35 @@ class Turn:
         for peer in self.peers:
             told_by = self.told_by(peer)
             returned += self.passed_over(peer, told_by) if peer.names & {*self.despite} else [(peer, told) for told in told_by]
+        published = self.published()
+        self.note_told(returned, published)
+        self.expect_own_look()
         since = self.begin_look(is_look)
         accepted = [peer for peer in self.peers if peer.accepted() and not peer.names & {*self.despite}]
         words: list[Word] = [] if since is None else [looking.word_of(it, self.has(it), self.returned.get(it.name), self.claims[it.name]) for it in accepted]
-        told = [it for _, it in returned]
+        told = [*(it for _, it in returned), *published]
         to_prove = [*told, *(Told(line, "") for word in words for line in word.claims)]
         proved = own.proved_lines(self.store, self.judge, self.last, to_prove)
         answer = judge_turn(self.last, proved, told, words, None if since is None else Look(since, looking.now(), SETTLED))
         if answer.lacking is not None:
-            raise self.old_store(answer.lacking, next(peer for peer, it in returned if it is answer.lacking))
+            raise self.old_store(answer.lacking, next((peer for peer, it in returned if it is answer.lacking), None))
         if is_look or answer.go is Go.WAIT:
             self.tell_look(accepted, answer.waiting, since)
         if since is not None and answer.go is Go.ON:
             if not accepted:
-                self.lines.expect_no_copy(self.store, self.last)
+                self.standing.expect(Command.ALONE, but={Against.LOOK})
             self.lines.end_look(self.last)
+        if self.named is not None and answer.go is Go.ON and not is_look:
+            self.lines.adopt(self.last)  # (once no peer tells that it is an old one)
         return answer.go is Go.ON and not is_look
+
+    def note_told(self, returned: Sequence[tuple[Peer, Told]], published: Sequence[Told]) -> None:
+        """Notes beside the store which lines that it lacks this turn saw, before the turn ends by them: so each word that comes after it knows them."""
+        by = {True: By.UNSIGNED, False: By.SIGNED}
+        seen = [Row(told.line, by[told.whence.endswith("unsigned")], peer.name) for peer, told in returned]
+        seen += [Row(told.line, By.PUBLISHED) for told in published]
+        stands = [row for row in self.standing.told if self.is_lacking(row.line)]
+        ToldLines(self.service).put(choose_told(stands, seen))
 
     def passed_over(self, peer: Peer, told: Sequence[Told]) -> list[tuple[Peer, Told]]:
         """Nothing of what a peer tells of this service counts, which a person has named for that; what the store lacks of it is told, and counts."""
@@ -199,7 +214,7 @@ class Turn:
 
     def begin_look(self, is_look: bool) -> Optional[int]:
         """Since when peers' words are waited for; None where they aren't."""
-        moment, begun = looking.now(), self.lines.begun_look()
+        moment, begun = looking.now(), self.begun_look()
         why = None if begun is None else self.why_anew(begun, moment)
         if not is_look and why is None and (begun is not None or not self.may_be_old(moment)):
             return begun.since if begun is not None else None
@@ -208,6 +223,16 @@ class Turn:
         since = when_begun(moment, (peer.came(name) for peer in self.peers for name in ("yours", "line")))
         self.lines.begin_look(since, self.notes.renew(moment))
         return since
+
+    def begun_look(self) -> Optional[Begun]:
+        """The look that goes on; a person who names the last line ends it."""
+        return self.lines.begun_look() if self.named is None else None
+
+    def expect_own_look(self) -> None:
+        """Raises Trouble where a look of another box goes on, or one from before a restore, and no peer of this one can tell anything."""
+        begun = self.begun_look()
+        if begun is not None and self.lines.is_look_copied(begun, self.notes.identity()) and not any(peer.accepted() for peer in self.peers):
+            self.standing.expect(Command.ALONE)
 
     def why_anew(self, begun: Begun, moment: int) -> Optional[str]:
         """Why the look that goes on begins anew; None where it doesn't."""
@@ -275,14 +300,21 @@ class Turn:
         """The part of the service that has this name."""
         return next((part for part in self.parts if part.last.service == name), None)
 
-    def old_store(self, lacking: Told, peer: Peer) -> Trouble:
+    def published(self) -> list[Told]:
+        """The last lines that were published of the service, signed by its key, that the store lacks."""
+        out = self.settings.publish
+        found = [it for it in publishing.last_published(out) if self.is_lacking(it.line)] if out is not None else []
+        keys = publishing.own_keys(self.box, self.settings) if found else []
+        return [Told(it.line, f"signed by its key, and published in {name_of(out or '')}") for it in found if publishing.is_signed_by(it, keys)]
+
+    def old_store(self, lacking: Told, peer: Optional[Peer]) -> Trouble:
         """The store lacks a line that was told of it."""
         part = self.part_named(lacking.line.service)
         if part is not None:
             trouble = own.lacking(part.store.path, part.last, lacking)
         else:
             trouble = own.old_store(str(self.service), lacking.line, f"no part of it is called {lacking.line.service}", lacking.whence)
-        if not lacking.whence.endswith("unsigned"):
+        if peer is None or not lacking.whence.endswith("unsigned"):
             return trouble
         advice = f"{trouble.advice} Ask {peer.name} by another way; if it is wrong: weft exchange --despite {peer.name} .."
         return Trouble(trouble.status, trouble.sentence, advice)
@@ -324,11 +356,17 @@ class Turn:
     def follow_peers(self) -> None:
         """Takes the further parts in which peers go on, as far as that is shown."""
         unfit = functools.partial(self.unfit, count="unjoined")
-        follower = Follower(self.judge, self.signers, self.settings.is_unsigned, self.key_of, self.note_signed, unfit)
+        follower = Follower(self.judge, self.signers, self.settings.is_unsigned, self.key_of, self.note_signed, unfit, self.other_kept, self.kept_of)
         names = {*(part.last.service for part in self.parts), *(peer.name for peer in self.all_peers)}
         found: list[Peer] = []
         for peer in self.all_peers:
             found.append(peer)
+            end = peer.noted_end() if peer.later is None else None
+            if end is not None:
+                peer.need(
+                    f"it went on as {end.name}, by its line of step {end.line.step}, which no key signed that is noted of it now: {end.name} isn't taken for its part any more. "
+                    f"If it is: weft accept {name_of(self.box)} {end.name} --key KEY.pub"
+                )
             if peer.later is None:
                 new = follower.follow(peer, names)
                 found += new
@@ -493,19 +531,45 @@ class Turn:
         key = self.key_of(signed)
         if key is None:
             if self.has_key(peer):
-                self.unfit(peer, f"the line in its folder isn't signed by the key that {name_of(self.signers)} has for it: not taken")
+                new = f"weft accept {name_of(self.box)} {peer.name} LINE --introduced FILE notes a new key that the old one introduced"
+                self.unfit(peer, f"the line in its folder isn't signed by the key that {name_of(self.signers)} has for it: not taken ({new})")
             return None
         peer.remove("unfit")
         self.note_signed(peer, signed, f"signed by {key}, by exchange")
+        other = self.other_kept(signed.line)
+        if other is not None:
+            peer.say(other)
+            self.look(Status.CONTRADICTION)
         return signed
 
+    def other_kept(self, line: Line) -> Optional[str]:
+        """That the user keeps another line of its step, where he does."""
+        held = self.kept.at(line.service, line.step)
+        if hold_line(line, (it.line for it in held)) is not Beside.OTHER:
+            return None
+        came = "; ".join(it.told for it in held if it.line != line)
+        return (
+            f"TWO LINES: the line of step {line.step} of {line.service} that you keep ({came}) is another one than {line.authenticator[:16]}.., which its key signed: "
+            f"that service has shown two histories, or one of both isn't its own, or two services have one name. Keep both, and ask {line.service} by another way"
+        )
+
+    def kept_of(self, service: str) -> list[Kept]:
+        """The lines that the user keeps of a service, and that count."""
+        return [it for step in self.kept.steps(service) for it in self.kept.at(service, step)]
+
     def key_of(self, signed: Signed) -> Optional[str]:
-        """The key that is noted now for the line's service, and by which it is signed, checked once a turn; None where it isn't so."""
+        """The key that is noted now for the line's service, and by which it is signed, checked once a turn; None where it isn't so. A key that counts on some days alone
+        had to count when the line was kept, and where it wasn't yet, now."""
         if signed not in self.keys:
-            key = signatures.checked(signed, self.signers)
+            key = signatures.checked(signed, self.signers, self.when_kept(signed) if signatures.has_days(self.signers, signed.line.service) else None)
             part = self.further.get(signed.line.service)
             self.keys[signed] = None if key is None or (part is not None and not self.counts(part, key.split()[-1])) else key
         return self.keys[signed]
+
+    def when_kept(self, signed: Signed) -> Optional[str]:
+        """When a line of a peer was kept first as signed, by the clock here; None where it wasn't."""
+        peer = next((it for it in self.all_peers if it.name == signed.line.service), None)
+        return peer.when_kept(signed.line) if peer is not None else None
 
     @property
     def further(self) -> dict[str, Peer]:
@@ -569,7 +633,8 @@ class Turn:
     def is_disputed(self, peer: Peer, step: int) -> bool:
         """Whether lines of a peer's step contradict that count by the keys that are noted of it now, and none was chosen."""
         known = KeptLines([peer.kept / "lines"])
-        counting = list_counting(known.all_at(peer.name, step), known.marks_at(peer.name, step), joints.counting_keys(self.signers, peer))
+        kept, keys = known.all_at(peer.name, step), joints.counting_keys(self.signers, peer)
+        counting = list_counting(kept, known.marks_at(peer.name, step), keys, signatures.late_of(self.signers, peer.name, kept))
         return standing_of(counting.kept, counting.marks).is_disputed
 
     def weigh(self, peer: Peer, held: Signed, new: Signed) -> Finding:
@@ -860,6 +925,7 @@ class Turn:
             self.go_on()
         if self.last.step == 0:
             self.last = self.store.append(formats.events_file([]), None)
+        self.tell_strange_steps()
         self.lines.note(self.last)
         for peer in self.peers:
             self.take(peer)
@@ -870,14 +936,22 @@ class Turn:
         Answers(self.all_peers, self.judge, self.key_of).hold()
         self.listen()
         self.let_go()
-        parts.note_others(self.service, self.names_like_parts(self.known_names), self.names_like_parts({*self.heard_names, *self.heard_receipts.names}))
+        parts.note_others(self.service, [part.last.service for part in self.parts], self.names_like_parts(self.known_names), self.names_like_parts({*self.heard_names, *self.heard_receipts.names}))
         self.go_on()
         self.put_all()
         self.told += self.unsigned()
 
+    def tell_strange_steps(self) -> None:
+        """Tells the steps with events of a log that no run of weft log made."""
+        told = strange_steps(self.part, self.lines.last()) if is_log(self.parts[0]) else None
+        if told is not None:
+            self.told.append(told)
+            self.look()
+
     def put_all(self) -> None:
         """Puts out what is to go, and answers what is asked."""
         parts.hand_out(self.service, self.parts)
+        self.put_own_lines()
         signed, asked = self.signed(self.part), asking.Asked({part.last.service: part.store for part in self.parts}, self.all_peers)
         for peer in self.peers:
             asking.answer_peer(asked, peer, peer.take("requests", asking.MOST_BYTES) if peer.accepted() else None)
@@ -885,6 +959,13 @@ class Turn:
         for peer in self.all_peers:
             self.recall_links(peer)
             self.tell_end(peer)
+            peer.renew("accused", b"yes\n" if peer.is_accused else b"")
+
+    def put_own_lines(self) -> None:
+        """Puts the last line of each part, signed, where it is published from."""
+        signed = [it for it in map(self.signed, self.parts) if it is not None]
+        if signed:
+            files.renew_if_other(self.box / ".line", b"".join(it.data for it in signed), files.PRIVATE)
 
     def names_like_parts(self, names: Collection[str]) -> set[str]:
         """Those of these names that a part of this service could get, and that none has."""
@@ -977,19 +1058,26 @@ class Turn:
         self.look()
         return [f"Nothing signs your lines: set key = FILE in {name_of(self.box / 'box.conf')}."]
 
+    @functools.cached_property
+    def own_signed(self) -> list[Signed]:
+        """The last lines of the parts, as they were signed for the last turn."""
+        return read_signed_lines(files.read_if_there(self.box / ".line", MOST_SIGNED) or b"")
+
     def signed(self, part: Part) -> Optional[Signed]:
         """The last line of a part, signed, where the box has a key."""
         if self.settings.key is None:
             return None
-        for peer in self.peers:
-            signed = read_signed_line(files.read_if_there(peer.of_own(self.place_of(part)) / "line", SIGNED_BYTES) or b"")
+        if part.last in self.signed_now:
+            return self.signed_now[part.last]
+        put_out = (read_signed_line(files.read_if_there(peer.of_own(self.place_of(part)) / "line", SIGNED_BYTES) or b"") for peer in self.peers)
+        for signed in chain(self.own_signed, put_out):
             if signed is not None and signed.line == part.last and self.is_own(signed):
-                return signed
+                return self.signed_now.setdefault(part.last, signed)
         made = signatures.sign(part.last, self.settings.key)
         if not self.is_own(made):
             told = f"the public key beside {name_of(self.settings.key)} isn't that of the key"
             raise Trouble(Status.UNREADABLE, told, "Put the right one there: by it lines of your own that peers hand back are known again. Nothing was signed.")
-        return made
+        return self.signed_now.setdefault(part.last, made)
 
 
 def refusal_text(name: str, message: Message, refusal: str, fields: list[str]) -> tuple[str, bool]:

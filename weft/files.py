@@ -10,25 +10,48 @@ import errno
 import fcntl
 import os
 import secrets
+import shutil
 import stat
 import sys
 from contextlib import contextmanager
 from pathlib import Path
-from typing import IO, Callable, Iterator, Optional, Union
+from typing import IO, Callable, Iterator, NamedTuple, Optional, Union
 
+from weft.deciding.keeping import may_be_sent
+from weft.deciding.signatures import is_private_key
 from weft.output import complain
 from weft.statuses import Status
-from weft.texts import name_of
+from weft.texts import name_of, typed
 from weft.trouble import Trouble
 
 AnyPath = Union[str, "os.PathLike[str]"]
 
+
+class Input(NamedTuple):
+    """A file that a judgement is of, or that it used: what it was, its name, and of what was read of it the count of bytes and their SHA-256 digest; None where it wasn't
+    read whole."""
+
+    what: str
+    file: str
+    bytes: Optional[int]
+    sha256: Optional[str]
+
+
 PIECE = 1 << 20
+STORE = "timeline.tw"
+# How what stands beside the folder of a service ends.
+OWN_ENDS = (
+    ".lines", ".anchor", ".entries", ".pending", ".lock", ".look", ".seal", ".known", ".next", ".others", ".backup", ".records", ".keys", ".told",
+)  # fmt: skip
 GET_GENERATION = 0x80087601
 PRIVATE, BY_UMASK, PRIVATE_FOLDER = 0o600, 0o666, 0o700
 READABLE, GROUP = 0o044, 0o070
 MOST_LINKS = 40
 MOST_FRONT = 60
+MOST_HEAD = 64
+MOST_NOTED = 1 << 16
+READ: set[tuple[int, int]] = set()
+"""Which files this run read, by their devices and numbers, of very many the first ones."""
 
 # What to do where a file can't be written, by the reason.
 NO_ROOM = "What was there before stands; run it again once there is room."
@@ -65,11 +88,14 @@ def opened(path: AnyPath, follow: bool = True, within: Optional[int] = None) -> 
         raise unread(path, failure) from None
     except ValueError:
         raise Trouble(Status.NO_INPUT, f"{name_of(path)} is no name of a file") from None
-    mode = os.fstat(number).st_mode
+    about = os.fstat(number)
+    mode = about.st_mode
     if not stat.S_ISREG(mode):
         os.close(number)
         what = "a folder" if stat.S_ISDIR(mode) else "a pipe" if stat.S_ISFIFO(mode) else "no regular file"
         raise Trouble(Status.NO_INPUT, f"{name_of(path)} is {what}", "Name a file.")
+    if len(READ) < MOST_NOTED:
+        READ.add((about.st_dev, about.st_ino))
     return number
 
 
@@ -284,9 +310,12 @@ def remove_quietly(path: str) -> None:
         pass
 
 
-def hand_out(path: AnyPath, data: bytes) -> None:
+def hand_out(path: AnyPath, data: bytes, goes_on: bool = False) -> None:
     """Makes a file that the user named: a new one as the umask says. A link of that name isn't followed, since whoever sent the folder may have put it there:
-    the file comes in its place, and that is told."""
+    the file comes in its place, and that is told. Raises Trouble where it is a file of a service, one that was read for this, but for one that it goes on from, or a private
+    key."""
+    expect_no_own(path)
+    expect_unread(path, goes_on)
     try:
         target = target_of(path)
     except OSError as failure:
@@ -296,10 +325,47 @@ def hand_out(path: AnyPath, data: bytes) -> None:
         complain(f"{name_of(path)} was a link to {name_of(target)}, which wasn't written over: the file stands in the link's place.")
 
 
+def which(name: str) -> Optional[str]:
+    """The path of a program: as it is named where a folder is named with it, else within those folders that PATH names from the root on; any other one may be that of
+    files which somebody sent."""
+    if os.path.dirname(name):
+        return shutil.which(name)
+    folders = [folder for folder in os.environ.get("PATH", os.defpath).split(os.pathsep) if os.path.isabs(folder)]
+    return shutil.which(name, path=os.pathsep.join(folders)) if folders else None
+
+
+def expect_no_own(path: AnyPath) -> None:
+    """Raises Trouble where a name is that of a store, or of what stands beside a service's folder."""
+    folder, name = os.path.split(os.path.abspath(path))
+    stem = next((name.removesuffix(end) for end in OWN_ENDS if name.endswith(end)), "")
+    if name == STORE or os.path.lexists(os.path.join(folder, STORE)) or (stem and os.path.lexists(os.path.join(folder, stem, STORE))):
+        raise Trouble(Status.USAGE, f"{name_of(path)} is a file of a service, and isn't written over", "Name another one.")
+
+
+def expect_unread(path: AnyPath, goes_on: bool) -> None:
+    """Raises Trouble where a file that is there was read in this run, as kept lines, a proof or a document, and what is handed out doesn't go on from it; or is a private key."""
+    try:
+        about = os.lstat(path)
+    except OSError:
+        return
+    if not stat.S_ISREG(about.st_mode):
+        return
+    try:
+        with open(path, "rb") as file:
+            head = file.read(MOST_HEAD)
+    except OSError:
+        head = b""
+    is_read = not goes_on and (about.st_dev, about.st_ino) in READ
+    if is_read or is_private_key(head):
+        what = "was read for this" if is_read else "is a private key"
+        raise Trouble(Status.USAGE, f"{name_of(path)} {what}, and isn't written over", "Name another file.")
+
+
 def unchosen(path: str, data: bytes) -> str:
     """The path of a file that is handed out under a name which nobody chose. Raises Trouble where another file has it: somebody may hold that one."""
     if not is_there(path):
         return path
+    before = set(READ)
     number = opened(path)
     try:
         is_same = read_up_to(number, len(data) + 1) == data
@@ -308,9 +374,10 @@ def unchosen(path: str, data: bytes) -> str:
     finally:
         os.close(number)
     if is_same:
+        READ.intersection_update(before)  # (the same is written again)
         return path
     told = f"{name_of(path)} is there already, and is another one; it is left as it is"
-    raise Trouble(Status.REFUSED, told, f"Name a file by --out; --out {name_of(path)} writes over it.")
+    raise Trouble(Status.REFUSED, told, f"Name a file by --out; --out {typed(path)} writes over it.")
 
 
 def renew_if_other(path: AnyPath, data: bytes, mode: Optional[int] = None) -> None:
@@ -355,9 +422,9 @@ def append(path: AnyPath, data: bytes) -> None:
         raise unwritten(path, failure) from None
 
 
-def extend(path: AnyPath, data: bytes, at: int) -> None:
-    """Puts bytes behind the first ones of a file that grows, and nothing stands behind them then; they are on the disk before this returns. Where it is
-    stopped, a part of them may stand there. A link is followed, and stays."""
+def extend(path: AnyPath, data: bytes, at: int, is_lasting: bool = True) -> None:
+    """Puts bytes behind the first ones of a file that grows, and nothing stands behind them then; they are on the disk before this returns, or if they needn't
+    last, sometime. Where it is stopped, a part of them may stand there. A link is followed, and stays."""
     try:
         target = target_of(path)
         is_new = not os.path.lexists(target)
@@ -366,7 +433,8 @@ def extend(path: AnyPath, data: bytes, at: int) -> None:
             os.ftruncate(number, at)
             os.lseek(number, at, os.SEEK_SET)
             write_all(number, data)
-            os.fsync(number)
+            if is_lasting:
+                os.fsync(number)
         finally:
             os.close(number)
         if is_new:
@@ -402,9 +470,22 @@ def make_folder(path: AnyPath) -> None:
 def home() -> Path:
     """The user's own folder; raises Trouble where the system knows of none, as of a user of a container."""
     try:
-        return Path.home()
+        found = Path.home()
     except RuntimeError:
         raise Trouble(Status.DISK, "the system tells no folder of this user's own", "Name one by the variable HOME, or the files themselves.") from None
+    if may_be_sent(os.fspath(found)):
+        raise Trouble(Status.DISK, f"HOME names {name_of(found)}, from this folder on, which may be that of whoever sent it", "Name your own by its whole path.")
+    return found
+
+
+def named_by(variable: str) -> Optional[Path]:
+    """The file of the user's own that a variable names; None where it names none. Raises Trouble where it names one from the folder on that is stood in: that may be
+    somebody else's, which lies beside what he sent."""
+    named = os.environ.get(variable)
+    if named and not os.path.isabs(named):
+        advice = f"Name it from the root on, as {variable}=$PWD/FILE where it is made, or by the option."
+        raise Trouble(Status.USAGE, f"{variable} names {name_of(named)} from this folder on: in another folder that is another file", advice)
+    return Path(named) if named else None
 
 
 def expect_folder(path: AnyPath, what: str) -> None:

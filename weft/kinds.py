@@ -9,10 +9,10 @@ from weft.lines import read_kept, read_mark
 from weft.texts import count_of
 
 PROOF_KINDS = {1: "event", 2: "precedence", 3: "thread", 4: "absence", 5: "link", 6: "low map", 7: "high map"}
-LETTERS = {b"TWP1": "proof", b"TWT1": "message", b"TWR1": "receipts", b"TWV1": "evidence", b"TWH1": "history", b"TWE1": "events"}
+LETTERS = {b"TWP1": "proof", b"TWT1": "message", b"TWR1": "receipts", b"TWV1": "evidence", b"TWH1": "history", b"TWE1": "events", b"PK\x03\x04": "bundle"}
 NAMES = {
     "event": "a proof", "precedence": "a proof", "thread": "a proof", "absence": "a proof", "link": "a proof", "proof": "a proof", "low map": "a map file",
-    "high map": "a map file", "message": "a message", "receipts": "a receipt", "evidence": "evidence", "history": "a history", "events": "an events file",
+    "high map": "a map file", "message": "a message", "receipts": "a receipt", "evidence": "evidence", "history": "a history", "events": "an events file", "bundle": "a zip file",
 }  # fmt: skip
 
 
@@ -22,7 +22,7 @@ ARCHIVE_KINDS = ("thread", "absence", "low map", "high map")
 
 def kind_of(data: bytes) -> str:
     """What the bytes begin as: `event`, `precedence`, `thread`, `absence`, `link`, `low map`, `high map`, `message`, `receipts`, `evidence`,
-    `history`, `events`; else `text`."""
+    `history`, `events`, `bundle`; else `text`."""
     kind = LETTERS.get(data[:4], "text")
     return PROOF_KINDS.get(data[4] if len(data) > 4 else 0, "proof") if kind == "proof" else kind
 

@@ -1,6 +1,6 @@
 """The digests of the packages that this weft was made with; python3 -m weft.packages notes them anew."""
 
 DIGESTS = {
-    "timeweave_reference": "20203e49a2207f37da78cceaf9bcc07ca2968b4d638c55cbbe8c3223bb4e41f0",
-    "timeweave": "abb5427ddbae48b5ed6944350b1f42e207262b0e68ba0bfe48e5792b06703223",
+    "timeweave_reference": "4fa7be1dcecc9f9dfc50dc12b422841ed73ded410930610d2053439c0cbd2501",
+    "timeweave": "21e5065ea3a2e66e4885e4fcd4cdb00aeee376e5addf8b03b471c4ab9acbf78c",
 }

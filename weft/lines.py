@@ -9,6 +9,7 @@ whose lines contradict stands in lines of its own (deciding/keeping.py)."""
 
 from __future__ import annotations
 
+import itertools
 import os
 import time
 from contextlib import contextmanager
@@ -16,7 +17,7 @@ from pathlib import Path
 from typing import Callable, Collection, Iterable, Iterator, NamedTuple, Optional, Sequence, Union
 
 from weft import files, locks
-from weft.deciding import keeping
+from weft.deciding import keeping, letters
 from weft.deciding import lines as deciding
 from weft.deciding.keeping import Counting, Mark, Outcome, Standing, choose_line, find_standing_choice, list_counting, may_be_mistyped, place_line, standing_of, was_passed_over
 from weft.deciding.lines import LAST_STEP as LAST_STEP
@@ -25,15 +26,20 @@ from weft.deciding.lines import NAME_RULE as NAME_RULE
 from weft.deciding.lines import Kept as Kept
 from weft.deciding.lines import Line as Line
 from weft.deciding.lines import read_line as read_line
-from weft.files import AnyPath
+from weft.deciding.rows import digest_of
+from weft.files import AnyPath, Input
 from weft.output import complain
+from weft.sentences import fill
 from weft.statuses import Status
-from weft.texts import MOST_SHOWN, beside, name_of, now, printable, quoted
+from weft.texts import MOST_SHOWN, beside, name_of, now, printable, quoted, typed
 from weft.trouble import Trouble
 
 MOST_BYTES = 1 << 32
+MOST_OTHERS = 1 << 20
 MOST_ANCHORS = 64
 ONE_SECOND = 1.0
+# So much of a text is read in which a line stands amid others.
+MOST_TYPED = 1 << 20
 
 
 def checked_name(name: str) -> str:
@@ -67,6 +73,45 @@ def lines_of(data: bytes, what: str) -> list[Line]:
     return lines
 
 
+def typed_lines(data: bytes, what: str, is_found: bool = False) -> list[Line]:
+    """The lines of a file that somebody typed, in groups or over several lines of it. Raises Trouble where one was typed wrong, where there is none, and where other
+    words stand in it, which may say anything of them, but where a person says that they are meant (`is_found`)."""
+    try:
+        return lines_of(data, what)
+    except Trouble as trouble:
+        typed, others = letters.read_typed(data[:MOST_TYPED].decode("utf-8", "replace"))
+        if not typed:
+            raise trouble from None
+    found = [it.line for it in typed if it.line is not None]
+    alone = [" ".join(typed_sentences(it)) for it in typed if it.fault is letters.Fault.ALONE]
+    faults = [" ".join(typed_sentences(it)) for it in typed if it.fault not in (None, letters.Fault.ALONE)]
+    if faults or not found:
+        raise Trouble(Status.UNREADABLE, f"in {what}: {' '.join([*faults, *alone])}".removesuffix("."), "Nothing was kept.")
+    if others and not is_found:
+        told = " ".join(fill("amid words", service=it.service, step=it.step, digits=letters.grouped(it.authenticator)) for it in found)
+        raise Trouble(Status.LOOK, f"in {what}: {told}".removesuffix("."), "Nothing was kept. Read what the file says of it; if it is the one that is meant: --found.")
+    for text in alone:
+        complain(f"passed over in {what}: {text}")
+    return found
+
+
+def typed_sentences(it: letters.Typed) -> list[str]:
+    """What is wrong with a line that was typed."""
+    if it.fault is None:
+        return []
+    told = fill(it.fault.value, service=it.service, step=it.step, count=len(it.digits), row=it.row, said=it.said, number=it.number)
+    return [told, fill("row guess", said=it.said)] if it.fault is letters.Fault.ROW and it.said else [told]
+
+
+def slip_sentences(kept: Iterable[Line]) -> list[str]:
+    """That two of these lines of one step differ so little that one was typed wrong, where two do."""
+    found = ((one, other, letters.find_slip(one.authenticator, other.authenticator)) for one, other in itertools.combinations(dict.fromkeys(kept), 2))
+    return [
+        fill("slip between", service=one.service, step=one.step, where=slip.where, one=slip.one, other=slip.other)
+        for one, other, slip in found if slip is not None and (one.service, one.step) == (other.service, other.step)
+    ]  # fmt: skip
+
+
 def anchors(chosen: Iterable[Line]) -> bytes:
     """The bytes of an anchors file of these lines."""
     return b"".join(line.text.encode() + b"\n" for line in chosen)
@@ -74,18 +119,18 @@ def anchors(chosen: Iterable[Line]) -> bytes:
 
 def default_kept() -> Path:
     """Where lines are kept, where nothing else is named: by the variable WEFT_KEPT, else among the user's own files."""
-    named = os.environ.get("WEFT_KEPT")
-    return Path(named) if named else own_files() / "kept"
+    return files.named_by("WEFT_KEPT") or own_files() / "kept"
 
 
 def own_files() -> Path:
-    """The folder of weft among the user's own files."""
-    data = os.environ.get("XDG_DATA_HOME")
-    return (Path(data) if data else files.home() / ".local/share") / "weft"
+    """The folder of weft among the user's own files; a variable that names it from some other folder on is passed over, as XDG's rule is."""
+    data = os.environ.get("XDG_DATA_HOME", "")
+    return (Path(data) if os.path.isabs(data) else files.home() / ".local/share") / "weft"
 
 
 class KeptLines:
-    """The kept lines of files, by service and step, and what is told of steps of which lines contradict; and the status of how they were found."""
+    """The kept lines of files, by service and step, and what is told of steps of which lines contradict; the names that a person says are another service's, which
+    stand beside such a file in FILE.others; and the status of how they were found."""
 
     def __init__(self, paths: Iterable[AnyPath] = (), more: Iterable[Kept] = (), named: Iterable[AnyPath] = ()):
         self.found: dict[str, dict[int, list[Kept]]] = {}
@@ -93,13 +138,29 @@ class KeptLines:
         self.marks: dict[tuple[str, int], list[Mark]] = {}
         self.rising: dict[str, list[int]] = {}
         self.uncounted: dict[str, list[Kept]] = {}
-        for path in paths:
-            data = files.read_if_there(path, MOST_BYTES)
-            self.add_text(path, (data or b"").decode("utf-8", "replace"))
-        for path in named:
-            self.add_text(path, files.read(path, MOST_BYTES).decode("utf-8", "replace"))
+        self.inputs: list[Input] = []
+        self.others: set[str] = set()
+        given, wanted = [Path(path) for path in paths], [Path(path) for path in named]
+        self.paths = [*given, *wanted]
+        for path in given:
+            self.add_file(path, files.read_if_there(path, MOST_BYTES))
+        for path in wanted:
+            self.add_file(path, files.read(path, MOST_BYTES))
+        for place in self.paths:
+            self.others.update((files.read_if_there(beside(place, ".others"), MOST_OTHERS) or b"").decode("ascii", "replace").split())
         for kept in more:
             self.add(kept)
+
+    @property
+    def place_of_others(self) -> Path:
+        """Where a person says that a name is another service's."""
+        return beside(self.paths[0] if self.paths else default_kept(), ".others")
+
+    def add_file(self, path: AnyPath, data: Optional[bytes]) -> None:
+        """Adds all lines of a file that was read, where it is there, and notes what was read."""
+        if data is not None:
+            self.inputs.append(Input("kept lines", os.fspath(path), len(data), digest_of(data)))
+            self.add_text(path, data.decode("utf-8", "replace"))
 
     def add_text(self, path: AnyPath, text: str) -> None:
         """Adds all lines of a file's text; raises Trouble at one that is none."""
@@ -119,11 +180,12 @@ class KeptLines:
         self.found.setdefault(found.line.service, {}).setdefault(found.line.step, []).append(found)
         self.rising.pop(found.line.service, None)
 
-    def count_by(self, service: str, noted: Collection[str]) -> None:
-        """Lets no line of a service count that came by the signature of another key than these alone, nor what is told of a contradiction with such lines."""
+    def count_by(self, service: str, noted: Collection[str], late: Collection[Kept] = ()) -> None:
+        """Lets no line of a service count that came by the signature of another key than these alone, or when its key didn't count, as these, nor what is told of a
+        contradiction with such lines."""
         for step in {*self.found.get(service, {}), *(step for name, step in self.marks if name == service)}:
             kept = self.all_at(service, step)
-            left = list_counting(kept, self.marks_at(service, step), noted)
+            left = list_counting(kept, self.marks_at(service, step), noted, late)
             gone = [it for it in kept if it not in left.kept]
             if gone:
                 self.uncounted.setdefault(service, []).extend(gone)
@@ -164,9 +226,10 @@ class KeptLines:
         for it in self.all_at(service, step):
             ways[it.line.authenticator][it.told] = None
         came = "; ".join(f"{one} {', '.join(told) or 'was seen, and is no more in the file'}" for one, told in ways.items())
+        slips = slip_sentences(Line(service, step, one) for one in ways)
         return Trouble(
             Status.CONTRADICTION,
-            f"there are {'two' if len(ways) == 2 else len(ways)} lines of step {step} of {service}, and at most one is of {service}'s history",
+            f"{''.join(f'{slip} ' for slip in slips)}{'T' if slips else 't'}here are {'two' if len(ways) == 2 else len(ways)} lines of step {step} of {service}, and at most one is of {service}'s history",
             f"Ask {service}, and look where each came from: {came}. Nothing is judged under any of them until you choose one: {choose_command(path)}.",
         )
 
@@ -178,6 +241,10 @@ class KeptLines:
         """The services and steps of which lines contradict, and none was chosen."""
         places = {(it.line.service, it.line.step) for it in self.all()} | self.marks.keys()
         return sorted(place for place in places if self.is_disputed(*place))
+
+    def disputes_of(self, service: str) -> list[tuple[str, int]]:
+        """Those of one service."""
+        return [place for place in self.disputes() if place[0] == service]
 
     def steps(self, service: str) -> list[int]:
         """The steps of which lines were kept, rising; the list is sorted once."""
@@ -226,6 +293,9 @@ def own_kept(is_new: bool = False) -> KeptLines:
 Noted = Callable[[str], Collection[str]]
 """The fingerprints of the keys that are noted of a service."""
 
+Late = Callable[[str, Sequence[Kept]], Collection[Kept]]
+"""Those of its kept lines whose key didn't count when they were kept."""
+
 
 class Placed(NamedTuple):
     """A line that was to be kept, and what became of it; where it contradicts others and doesn't count, the sentence of that; and where it was chosen, the
@@ -237,11 +307,11 @@ class Placed(NamedTuple):
     others: tuple[str, ...] = ()
 
 
-def keep(path: Path, new: Iterable[Kept], noted: Optional[Noted] = None) -> list[Placed]:
+def keep(path: Path, new: Iterable[Kept], noted: Optional[Noted] = None, late: Optional[Late] = None) -> list[Placed]:
     """Adds lines to a file of kept lines, and answers what became of each. One that contradicts others is added too, and marked: others that count, by the keys
     that are noted of their service where these are told."""
     with kept_file(path) as (known, added):
-        return [place(path, known, added, it, noted) for it in new]
+        return [place(path, known, added, it, noted, late) for it in new]
 
 
 def choose(path: Path, new: Kept) -> Placed:
@@ -274,11 +344,11 @@ def kept_file(path: Path) -> Iterator[tuple[KeptLines, list[Union[Kept, Mark]]]]
             files.renew(path, old + end + b"".join(f"{it.text}\n".encode() for it in added))
 
 
-def place(path: Path, known: KeptLines, added: list[Union[Kept, Mark]], new: Kept, noted: Optional[Noted] = None) -> Placed:
+def place(path: Path, known: KeptLines, added: list[Union[Kept, Mark]], new: Kept, noted: Optional[Noted] = None, late: Optional[Late] = None) -> Placed:
     """Adds a line to those that are known, and to those that are to be written; answers what became of it."""
     service, step = new.line.service, new.line.step
     kept, marks = known.all_at(service, step), known.marks_at(service, step)
-    counting = list_counting(kept, marks, noted(service)) if noted is not None else Counting(list(kept), list(marks))
+    counting = list_counting(kept, marks, noted(service), late(service, kept) if late is not None else ()) if noted is not None else Counting(list(kept), list(marks))
     standing = standing_of(counting.kept, counting.marks)
     others = [it for it in kept if it not in counting.kept and it.line != new.line and not was_passed_over(it.line, standing)]
     placement = place_line(new, counting.kept, counting.marks)
@@ -297,7 +367,7 @@ def beside_uncounted(others: Sequence[Kept]) -> Trouble:
     line, came = others[0].line, "; ".join(dict.fromkeys(it.told for it in others))
     return Trouble(
         Status.LOOK,
-        f"another line of step {line.step} of {line.service} was kept ({came}), and doesn't count, since that key isn't noted of {line.service}",
+        f"another line of step {line.step} of {line.service} was kept ({came}), and doesn't count, since that key isn't noted of {line.service} or wasn't then",
         "Was the key stolen, take that line out of your file of kept lines; else note it: then these are two lines of one step.",
     )
 
@@ -322,7 +392,7 @@ def dated_behind(mark: Mark, marks: Sequence[Mark], path: Path) -> Mark:
 
 def choose_command(path: Optional[Path]) -> str:
     """What is typed to choose a line, of this file of kept lines."""
-    return "weft keep --choose FILE" + ("" if path is None or path == default_kept() else f" --kept {name_of(path)}")
+    return "weft keep --choose FILE" + ("" if path is None or path == default_kept() else f" --kept {typed(path)}")
 
 
 def not_chosen(new: Kept, chosen: Iterable[Kept], path: Path) -> Trouble:

@@ -64,7 +64,7 @@ class Links:
         answer = asking.known(peer, one.pair.request)
         if answer is None:
             return count_night(one, peer.last.line_heard is Heard.NEW, self.limit)
-        meaning = weigh_answer(one.pair, self.given(one.pair, answer))
+        meaning = weigh_answer(one.pair, line_given(self.judge, one.pair, answer))
         asking.forget_answer(peer, one.pair.request)
         if meaning is Meaning.JOINS:
             held.joined.append(one.loose)
@@ -80,14 +80,6 @@ class Links:
         """Whether a line is signed by a key that is noted of its service now."""
         signed = held.signed.get(line)
         return signed is not None and self.key_of(signed) is not None
-
-    def given(self, pair: Pair, answer: bytes) -> Optional[Line]:
-        """The line that a link gives, judged strictly under the later line of the pair; None where it isn't accepted, or is no link."""
-        if not answer.startswith(b"TWP1"):
-            return None
-        verdict = self.judge.judge("strict", answer, anchors([pair.later]))
-        words = verdict.lines[1] if verdict.is_accepted and len(verdict.lines) > 1 else []
-        return Line(words[1], int(words[2]), words[4]) if words[:1] == ["link"] else None
 
     def new(self, peer: Peer, held: Held, handed_on: Sequence[Sequence[Signed]], opened: Sequence[Open]) -> list[Open]:
         """The links that are asked for in this turn, each of a line that is signed by the peer's key."""
@@ -131,6 +123,15 @@ class Links:
         files.renew(folder / pair.file_name, link)
         told = f"EVIDENCE: there are a line of its {steps}, both signed by its key, and {shown}: it has shown two histories, or somebody else has its key"
         peer.accuse(f"{told}. All three are kept in {name_of(folder)}; show them to all who hold its lines")
+
+
+def line_given(judge: Bench, pair: Pair, answer: bytes) -> Optional[Line]:
+    """The line that a link gives, judged strictly under the later line of the pair; None where it isn't accepted, or is no link."""
+    if not answer.startswith(b"TWP1"):
+        return None
+    verdict = judge.judge("strict", answer, anchors([pair.later]))
+    words = verdict.lines[1] if verdict.is_accepted and len(verdict.lines) > 1 else []
+    return Line(words[1], int(words[2]), words[4]) if words[:1] == ["link"] else None
 
 
 def held_of(peer: Peer) -> Held:

@@ -8,7 +8,7 @@ import time
 from contextlib import contextmanager
 from typing import Iterator
 
-from weft.files import PRIVATE, AnyPath, unwritten
+from weft.files import PRIVATE, AnyPath, opened, unwritten
 from weft.statuses import Status
 from weft.texts import name_of
 from weft.trouble import Trouble
@@ -25,20 +25,37 @@ def held(path: AnyPath, wait: float, of: AnyPath) -> Iterator[None]:
     except OSError as failure:
         raise unwritten(path, failure) from None
     try:
-        until = time.monotonic() + wait
-        while not taken(number):
-            if time.monotonic() >= until:
-                raise Trouble(Status.BUSY, f"another run of weft is at work on {name_of(of)}", "Run it again once that one has ended.")
-            time.sleep(PAUSE)
+        wait_for(number, fcntl.LOCK_EX, wait, f"another run of weft is at work on {name_of(of)}")
         yield
     finally:
         os.close(number)
 
 
-def taken(number: int) -> bool:
+@contextmanager
+def reading(path: AnyPath, wait: float, of: AnyPath) -> Iterator[None]:
+    """Holds the lock of a store, which has to be there, as one that reads it: programs that read it go on, and none writes it. Waits so many seconds for one that
+    does, and then raises Trouble."""
+    number = opened(path)
+    try:
+        wait_for(number, fcntl.LOCK_SH, wait, f"a program is writing the store in {name_of(of)}")
+        yield
+    finally:
+        os.close(number)
+
+
+def wait_for(number: int, kind: int, wait: float, told: str) -> None:
+    """Takes the lock of an open file, or raises Trouble once so many seconds are gone."""
+    until = time.monotonic() + wait
+    while not taken(number, kind):
+        if time.monotonic() >= until:
+            raise Trouble(Status.BUSY, told, "Run it again once that one has ended.")
+        time.sleep(PAUSE)
+
+
+def taken(number: int, kind: int) -> bool:
     """Whether the lock could be had now."""
     try:
-        fcntl.flock(number, fcntl.LOCK_EX | fcntl.LOCK_NB)
+        fcntl.flock(number, kind | fcntl.LOCK_NB)
     except BlockingIOError:
         return False
     return True

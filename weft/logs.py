@@ -15,9 +15,9 @@ import re
 from pathlib import Path
 from typing import Iterable, Iterator, Optional, Sequence
 
-from weft import checks, files, own, parts
-from weft.deciding.going_on import is_name_of_other, must_go_on, next_name
-from weft.deciding.restoring import Beside, Missing, find_missing
+from weft import checks, files, made, own, parts
+from weft.deciding.going_on import is_name_of_other, must_go_on
+from weft.deciding.standing import Command
 from weft.entries import Entries
 from weft.formats import MOST_EVENTS, MOST_STEP, events_file
 from weft.judges import Bench
@@ -25,7 +25,8 @@ from weft.lines import KeptLines, Line
 from weft.output import complain
 from weft.own import OwnLines
 from weft.parts import Next, Part
-from weft.recorded import expect_end, expect_true, exported_events, make_entries
+from weft.recorded import expect_end, expect_true, exported_events, make_entries, strange_steps
+from weft.standing import Standing
 from weft.statuses import Status
 from weft.stores import ClockBack, Store
 from weft.texts import beside, count_of, name_of, steps_of
@@ -68,6 +69,8 @@ def has_files(folder: Path) -> bool:
 class Log:
     """The log of a service in a folder."""
 
+    command = Command.LOG
+
     def __init__(self, service: Path, judge: Bench):
         self.service, self.judge = service, judge
         self.known, self.anchor = (beside(service, end) for end in (".known", ".anchor"))
@@ -106,21 +109,19 @@ class Log:
         first = self.store.last().line
         if name is not None and first.service != name:
             raise Trouble(Status.USAGE, f"the service in {name_of(self.service)} is called {first.service}, and not {name}")
-        found = parts.whole(self.service, self.judge)
-        self.status = parts.expect_kept(self.judge, found, self.kept)
-        new = parts.being_made(self.service, self.judge, found)
+        standing = Standing(self.service, self.judge, self.kept)
+        going = standing.expect(self.command, is_named=adopted is not None)
+        going.tell()
+        made.note(self.service, first.service)
+        self.status, new = going.status, standing.new
         if new is None:
             parts.forget_next(self.service)
-        *self.former, last = found if new is None else found[: new.number - 1]
-        for part in self.former:
-            OwnLines(part.folder).compare(part.store, self.judge, part.last)
+        *self.former, last = standing.made
         self.enter(last.folder, last.last)
         if adopted is not None:
-            self.lines.adopt(self.store, self.judge, self.last, adopted)
-        self.lines.expect_no_look(self.store)
-        self.lines.check(self.store, self.judge, self.last)
-        self.lines.expect_no_copy(self.store, self.last)
-        self.expect_entries(adopted is not None)
+            self.lines.expect_named(self.store, self.judge, self.last, adopted)
+            self.lines.adopt(self.last)
+        self.make_entries(standing, adopted is not None)
         self.go_on()
         if new is not None:
             self.go_on_in(new)
@@ -132,10 +133,10 @@ class Log:
         """Goes on in a new part, which is made or whose making is gone on with."""
         old = self.part
         files.remove(self.pending)
-        made = parts.make_next(self.service, self.judge, old, new)
+        part = parts.make_next(self.service, self.judge, old, new)
         self.former.append(old._replace(last=old.store.last().line))
-        self.enter(made.folder, made.last)
-        complain(f"{old.last.service} goes on as {made.last.service}, in {name_of(made.folder)}: its history would have outgrown its file.")
+        self.enter(part.folder, part.last)
+        complain(f"{old.last.service} goes on as {part.last.service}, in {name_of(part.folder)}: its history would have outgrown its file.")
 
     def make_room(self, events: Sequence[bytes]) -> None:
         """Goes on in a new part where a step of these events has no room in this one."""
@@ -157,23 +158,20 @@ class Log:
             raise Trouble(Status.DISK, told, "Was it moved? Put it back; an empty one would begin a second history.")
         if name is None:
             raise Trouble(Status.USAGE, f"there is no service in {name_of(service)} yet", "Name it: weft log FOLDER SERVICE NAME.")
-        later = parts.find_later([name], self.kept, service)
+        later = parts.find_later([name], self.kept)
         if is_name_of_other(self.kept.steps(name)) or later is not None:
             called = name if later is None else f"{later.service}, as a further part of {name} would be"
             told = f"you keep a line of another service that is called {called}, and none was made under that name"
             raise Trouble(Status.USAGE, told, "Choose another name. Was this one your own, whose store is lost, go on under a new name too.")
+        files.expect_no_own(service)
+        made.expect_unmade(service, name)
         files.make_folder(service)
 
-    def expect_entries(self, may_make: bool) -> None:
-        """Raises Trouble where the entries don't stand beside a store that has steps with events; where they may be made, they are made
-        anew of it."""
+    def make_entries(self, standing: Standing, may_make: bool) -> None:
+        """Makes the file of entries where it isn't there: of the store, where a person has named that, and else there are none."""
         if self.entries.is_there:
             return
-        has_events = any(self.store.count(step, self.last.step) for step in range(1, self.last.step + 1))
-        if find_missing(self.last, Beside(True, False, has_events)) is Missing.ENTRIES and not may_make:
-            told = f"{name_of(self.entries.path)} doesn't stand beside it, by which what was logged is known"
-            raise own.unnamed(self.store, self.last, told, "it", f" If it was lost: weft check --entries {name_of(self.store.path)}.")
-        count = make_entries(self.entries, exported_events(self.store, self.judge, self.last) if has_events else [])
+        count = make_entries(self.entries, exported_events(self.store, self.judge, self.last) if standing.has_events else [])
         if count:
             complain(f"{name_of(self.entries.path)} was made anew, of the store: {count_of(count, 'entry', 'entries')}.")
 
@@ -209,13 +207,11 @@ class Log:
         return all(own.event_at(self.store, self.judge, step, place, self.last) == events[place] for place in places)
 
     def note_others(self) -> None:
-        """Keeps the last line where others made steps. Steps without events are those that received a line, or tell nothing; of others
-        it is told that no entries are kept."""
+        """Keeps the last line where others made steps, and tells those with events."""
         held = self.lines.last()
-        others = range((held.step if held else 0) + 1, self.last.step + 1)
-        strange = [step for step in others if self.store.count(step, self.last.step)] if others else []
-        if strange and held is not None:
-            complain(f"{steps_of(strange)} of {self.last.service}: no run of weft log made such a step with events; their entries aren't kept.")
+        told = strange_steps(self.part, held)
+        if told is not None:
+            complain(told)
             self.status = Status.LOOK
         if held != self.last:
             self.lines.note(self.last)
@@ -261,11 +257,15 @@ class Log:
     def appended(self, events: bytes, time: Optional[int]) -> Line:
         """The line of a step that is appended; where its time would be refused it claims none, and that is told."""
         try:
-            return self.store.append(events, time)
+            return self.append(events, time)
         except ClockBack as back:
             complain(f"{back.trouble.sentence}: this step claims no time. Is the clock right?")
             self.status = Status.LOOK
             return self.store.append(events, None)
+
+    def append(self, events: bytes, time: Optional[int]) -> Line:
+        """The same; raises ClockBack where the time is refused."""
+        return self.store.append(events, time)
 
 
 def damaged_end(store: Store, step: int) -> Trouble:

@@ -14,7 +14,7 @@ from typing import NamedTuple, Optional
 
 from weft import files
 from weft.box import Peer
-from weft.deciding.restoring import NO_NOTE, Likeness, Word, compare_note, is_box_copied, write_open
+from weft.deciding.restoring import NO_FILE, NO_NOTE, Likeness, Word, compare_note, is_box_copied, write_open
 from weft.lines import Line
 from weft.texts import date_of, name_of
 
@@ -79,6 +79,11 @@ class Notes:
     def put_seal(self) -> None:
         """Says that the note is where it was written."""
         files.renew(self.seal, f"{self.identity()}\n".encode())
+
+    def seal_as_copy(self) -> None:
+        """Lets the box be known as a copy wherever it comes."""
+        if files.is_there(self.path):
+            files.renew(self.seal, f"{NO_FILE}\n".encode())
 
     def begin(self) -> None:
         """Notes that a turn is made."""

@@ -132,6 +132,9 @@ def run(words: Sequence[str]) -> Status:
         status = ended(words)
     except Trouble as trouble:
         status, told = trouble.status, trouble.told()
+    except OSError as failure:
+        what = f"{name_of(os.fsdecode(failure.filename))}: " if isinstance(failure.filename, (str, bytes)) else ""
+        status, told = Status.DISK, f"{what}{os.strerror(failure.errno or 0)}. What was there before stands; the next run goes on."
     if "--json" in itertools.takewhile(lambda word: word != "--", words):
         output.end_json(status, told)
     if told is not None:
@@ -152,10 +155,6 @@ def main(words: Optional[Sequence[str]] = None) -> int:
     except KeyboardInterrupt:
         output.complain("interrupted; the next run goes on.")
         return int(Status.STOPPED)
-    except OSError as failure:
-        what = f"{name_of(os.fsdecode(failure.filename))}: " if isinstance(failure.filename, (str, bytes)) else ""
-        output.complain(f"{what}{os.strerror(failure.errno or 0)}. What was there before stands; the next run goes on.")
-        return int(Status.DISK)
     except Exception:  # noqa: BLE001 - what nobody foresaw is told as a bug, with nothing raw in it
         for line in traceback.format_exc().splitlines():
             output.complain(printable(line))

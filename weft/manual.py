@@ -89,12 +89,47 @@ and
 .BR "bytes = 4194304" .
 After so many turns in which nothing new came of a peer that is told, 0 for never:
 .BR "silent = 3" .
+Over the web:
+.B url PEER = URL
+says where a peer publishes for you,
+.B seconds = 120
+how long it is asked a night,
+.B publish = OUT
+where you publish, and
+.B open = PEER ..
+(or *) for whom openly. Before anything is published
+.B backup = FILE
+is made, without the key.
 .TP
 .I BOX/allowed_signers
 Whose keys are whose, as of
 .BR ssh\\-keygen (1);
 .B weft accept \\-\\-key
 adds to it."""
+
+PUBLISHED = """What
+.B weft publish
+wrote into a folder
+.IR OUT .
+Nothing but its lines is signed, and nothing of it shows anything before a turn, or
+.BR "weft judge" ,
+has looked at it.
+.TP
+.I OUT/lines/NAME\\-STEP.line
+A line that went out, its line end, and its signature by the service's key. It is never changed, and never taken away.
+.TP
+.I OUT/lines/index
+These lines in the order in which they went out. What lacks in it shows nothing.
+.TP
+.I OUT/peers/PLACE/index
+What the last turn put out for a peer: a line `timeweave-road 1 SERVICE PEER FILES`, and a line `SIZE SHA256 NAME` for each file, in the order of names. PLACE is 32 digits that were drawn,
+or where that is open the peer's name. One that isn't whole is none. An old one brings what an earlier turn put out.
+.TP
+.I OUT/peers/PLACE/SHA256
+The bytes of a file, written before the index that lists it, and taken away once neither that one nor the one before does.
+.TP
+.IR OUT/service ", " key.pub ", " index.html ", " timeweave.html
+The service's name and public key, a page for people, and a copy of the page that checks proofs."""
 
 KEPT = """Plain text: a line of a service, the day on which it was kept, and how it came. Empty lines and those that begin with # are skipped; a line with nothing
 behind it counts as well. Of a step of which lines differ the file has marks, which name the authenticators: all that were seen, and where one was chosen, that one
@@ -106,12 +141,18 @@ contradiction: shop 2 5585fc74.. 16b1a2c0.. 2026\\-11\\-30T10:12:00Z
 chosen: shop 2 5585fc74.. 16b1a2c0.. 2026\\-12\\-01T08:30:00Z asked shop by telephone
 .fi
 .PP
+Stamps of lines stand in
+.IR KEPT.stamps/SERVICE :
+an authority's answer, and behind it those by which it was renewed, each of the line and all before it.
+.PP
 A signature of a line is made by
 .B ssh\\-keygen \\-Y sign \\-n timeweave\\-line
 over its exact text with its line end, and checked by
 .BR "ssh\\-keygen \\-Y verify" ,
 the principal being the service's name. In one file the line stands in front, and behind the signature's end nothing. A public key is read of a file of one
-line, type, key and comment.
+line, type, key and comment. A key whose line in the file of signers ends with
+.B introduced\\-by=SHA256:..
+counts while that one is noted there.
 .PP
 A file whose name begins with \\- is named as
 .I ./\\-FILE
@@ -127,6 +168,7 @@ VARIABLES = (
     ("TIMEWEAVE_PROGRAM", "The program timeweave, where it isn't the one on the path."),
     ("TIMEWEAVE_LIBRARY", "The library libtimeweave.so, where it isn't the installed one."),
     ("WEFT_KEPT", "The file of kept lines, where it isn't ~/.local/share/weft/kept (or under XDG_DATA_HOME)."),
+    ("WEFT_AUTHORITIES", "The folder of time-stamping authorities, NAME.pem each, where it isn't ~/.config/weft/authorities (or under XDG_CONFIG_HOME)."),
     ("WEFT_SIGNERS", "The file of signers, where it isn't ~/.config/weft/allowed_signers (or under XDG_CONFIG_HOME)."),
 )
 
@@ -153,8 +195,12 @@ def option_lines(action: argparse.Action) -> Iterator[str]:
 
 
 def usage(parser: argparse.ArgumentParser) -> str:
-    """How a command is typed, in one line."""
-    return " ".join(parser.format_usage().removeprefix("usage: ").split())
+    """How a command is typed, in one line, without its options, which stand below."""
+    taken = argparse.ArgumentParser(prog=parser.prog, add_help=False)
+    for action in parser._actions:
+        if not action.option_strings:
+            taken._add_action(action)
+    return " ".join(taken.format_usage().removeprefix("usage: ").split())
 
 
 def word_lines(word: str) -> Iterator[str]:
@@ -204,7 +250,7 @@ def page() -> str:
     lines += [".SH SYNOPSIS", ".B weft", ".I WORD ..", ".SH DESCRIPTION", plain(ABOUT), DESCRIPTION, ".SH WORDS"]
     for word in WORDS:
         lines += word_lines(word)
-    lines += [".SH EXIT STATUS", ANY, *status_lines(), ".SH THE FILE OF KEPT LINES", KEPT, ".SH A BOX", BOX, ".SH ENVIRONMENT"]
+    lines += [".SH EXIT STATUS", ANY, *status_lines(), ".SH THE FILE OF KEPT LINES", KEPT, ".SH A BOX", BOX, ".SH A PUBLISHED FOLDER", PUBLISHED, ".SH ENVIRONMENT"]
     for name, meaning in VARIABLES:
         lines += [".TP", f".B {name}", plain(meaning)]
     lines += [".SH SEE ALSO", ".BR timeweave (1),", ".BR ssh\\-keygen (1),", ".BR flock (2)", ""]

@@ -3,6 +3,7 @@ stands raw and nothing is endless; no other module has standard output or error.
 
 from __future__ import annotations
 
+import html
 import json
 import os
 import sys
@@ -72,6 +73,11 @@ def bounded_value(value: Any) -> Any:
     if isinstance(value, dict):
         return {key: bounded_value(it) for key, it in value.items()}
     return [bounded_value(it) for it in value] if isinstance(value, (list, tuple)) else value
+
+
+def marked(text: str) -> str:
+    """A text as it stands in a file of HTML: cut as a sentence is, with nothing raw in it, and nothing that HTML would read as its own."""
+    return html.escape(escaped(bounded(text)), quote=True)
 
 
 def write(to: Stream, text: str, front: str = "", end: str = "\n") -> None:

@@ -2,7 +2,8 @@
 out.
 
 By them an old store that was put back is found before it makes a step. DIR.look stands there while peers' words are waited for after a
-restore; it has the moment when that began, and says that it is no copy. What follows from all of that is decided in weft.deciding.restoring."""
+restore; it has the moment when that began, and says that it is no copy. DIR.told
+has the lines that a turn saw and the store lacks. What follows from all of that is decided in weft.deciding.restoring."""
 
 from __future__ import annotations
 
@@ -13,18 +14,26 @@ from pathlib import Path
 from typing import Optional, Sequence
 
 from weft import files, judges
-from weft.deciding.restoring import Begun, Beside, Likeness, Missing, Named, Seal, Told, compare_file, compare_named, find_lacking, find_missing
-from weft.deciding.restoring import is_copied, is_look_copied, list_steps_to_prove, read_look, read_seal, write_look
+from weft.deciding.restoring import NO_FILE, Begun, Likeness, Named, Seal, Told, compare_file, compare_named, find_lacking, is_copied, is_look_copied
+from weft.deciding.restoring import list_steps_to_prove, read_look, read_seal, write_look
+from weft.deciding.backups import Noted, read_noted
 from weft.deciding.lines import End, find_end
+from weft.deciding.told import By, Row, read_told, write_told
 from weft.judges import Bench
 from weft.lines import MOST_BYTES, Line, anchors, lines_of, read_line
 from weft.reports import read_report
 from weft.statuses import Status
 from weft.stores import Store
-from weft.texts import beside, count_of, date_of, name_of
+from weft.texts import beside, count_of, name_of
 from weft.trouble import Trouble
 
 MOST_SEAL = 200
+MOST_NOTE = 8_192
+MOST_TOLD = 1 << 20
+WHENCE = {
+    By.SIGNED: "signed by its key, and handed back by {} or put out for it before", By.UNSIGNED: "as {} told, unsigned",
+    By.PUBLISHED: "signed by its key, and published",
+}  # fmt: skip
 MOST_NAMED = 64 << 20
 
 
@@ -84,20 +93,10 @@ def lacks_all(store: Store, judge: Bench, last: Line, held: Sequence[Line]) -> b
     return all(find_lacking(last, proved, [it]) is not None for it in told)
 
 
-def held_against(store: Store, judge: Bench, last: Line, held: Line, whence: str, unmade: str = NO_STEP) -> None:
-    """Raises Trouble where the store, whose last line this is, hasn't the step of a line of its own that is held."""
-    if held.service != last.service:
-        raise Trouble(Status.USAGE, f"the service in {name_of(store.path)} is called {last.service}, and not {held.service}")
-    told = [Told(held, whence)]
-    if find_lacking(last, proved_lines(store, judge, last, told), told):
-        raise lacking(store.path, last, told[0], unmade)
-
-
 def add_adopt(parser: argparse.ArgumentParser) -> None:
     """The word by which a person says that a store is the right one."""
     text = (
-        "takes the store for the right one although its lines or entries don't stand beside it: LINE, a line or a file that has it, has to "
-        "be its last one"
+        "takes the store for the right one although its lines or entries don't stand beside it: LINE, or that of a file, has to be its last one"
     )
     parser.add_argument("--adopt-store", metavar="LINE", help=text)
 
@@ -121,12 +120,12 @@ def adopting(store: Store) -> str:
     return f"--adopt-store LINE (weft line {name_of(store.path)} prints it; compare it with what others hold of it)"
 
 
-def unnamed(store: Store, last: Line, what: str, missing: str, further: str = "") -> Trouble:
+def unnamed(store: Store, last: Line, what: str, missing: str, unmade: str, further: str = "") -> Trouble:
     """Nothing beside a store with steps tells whether it is the right one."""
     steps = count_of(last.step, "step")
     return Trouble(
         Status.OLD_STORE,
-        f"the store in {name_of(store.path)} has {steps}, and {what}: it may be an old one. No step was made",
+        f"the store in {name_of(store.path)} has {steps}, and {what}: it may be an old one. {unmade}",
         f"Was it copied without {missing}? Put {missing} beside it.{further} If no later line went out than its last one, name that: {adopting(store)}.",
     )
 
@@ -147,13 +146,39 @@ def step_of(line: Line) -> int:
     return line.step
 
 
+class ToldLines:
+    """The lines of the own service that the last turn saw, and that the store lacked then, beside the first part."""
+
+    def __init__(self, service: Path):
+        self.path = beside(service, ".told")
+
+    def read(self) -> list[Row]:
+        """The rows."""
+        found = read_told((files.read_if_there(self.path, MOST_TOLD) or b"").decode("ascii", "replace"))
+        if found is None:
+            told = f"{name_of(self.path)}, which tells lines that this store lacks, was changed: one of its rows is none"
+            raise Trouble(Status.UNREADABLE, told, "Put it back, or take it away, and run weft exchange, which makes it anew of what peers tell.")
+        return found
+
+    def put(self, rows: Sequence[Row]) -> None:
+        """Notes what was seen; where that is nothing, there is no file."""
+        if rows:
+            files.renew_if_other(self.path, write_told(rows).encode(), files.PRIVATE)
+        else:
+            files.remove(self.path)
+
+    def told_of(self, row: Row) -> Told:
+        """What a row tells, and by whom."""
+        return Told(row.line, f"{WHENCE[row.by].format(row.teller)}; noted in {name_of(self.path)}")
+
+
 class OwnLines:
     """The files of one's own lines beside a folder."""
 
     def __init__(self, folder: Path):
         self.folder = folder
         self.lines, self.anchor, self.look = beside(folder, ".lines"), beside(folder, ".anchor"), beside(folder, ".look")
-        self.seal = beside(folder, ".seal")
+        self.seal, self.backup = beside(folder, ".seal"), beside(folder, ".backup")
 
     @functools.cached_property
     def known(self) -> dict[Line, None]:
@@ -173,8 +198,17 @@ class OwnLines:
         return lines_of(data, name_of(path)) if data else []
 
     def all(self) -> list[Line]:
-        """The lines that were noted, and that to hand out."""
-        return [*self.known, *self.handed_out()]
+        """The lines that were noted, that to hand out, and that of the last backup."""
+        noted = self.backed_up()
+        return [*self.known, *self.handed_out(), *([noted.line] if noted is not None else [])]
+
+    def backed_up(self) -> Optional[Noted]:
+        """What is noted of the last backup of this part; None where nothing is."""
+        return read_noted((files.read_if_there(self.backup, MOST_NOTE) or b"").decode("utf-8", "surrogateescape"))
+
+    def note_backup(self, noted: Noted) -> None:
+        """Notes a backup of this part."""
+        files.renew(self.backup, noted.text.encode("utf-8", "surrogateescape"))
 
     def handed_out(self) -> list[Line]:
         """The lines of the file to hand out that are of this part: where a log has parts, the first of which it is, those of the others stand behind it."""
@@ -186,6 +220,17 @@ class OwnLines:
         seal = self.sealed()
         found = [*self.all(), *([seal.line] if seal else [])]
         return max(found, key=step_of) if found else None
+
+    def telling(self) -> list[Line]:
+        """The lines that a store is held against each time, each once: the last one, that to hand out, those of the seal and of the last backup, and of a step of which two
+        differ each. (Every other one was noted behind one that was held.)"""
+        steps: dict[int, dict[Line, None]] = {}
+        for line in self.all():
+            steps.setdefault(line.step, {})[line] = None
+        doubled = [line for same in steps.values() if len(same) > 1 for line in same]
+        last, seal, noted = self.last(), self.sealed(), self.backed_up()
+        others = [*self.handed_out(), *([seal.line] if seal is not None else []), *([noted.line] if noted is not None else [])]
+        return list(dict.fromkeys([*([last] if last is not None else []), *others, *doubled]))
 
     def sealed(self) -> Optional[Seal]:
         """The seal, or None where there is none."""
@@ -200,6 +245,12 @@ class OwnLines:
         lines = [line, *([part] if part is not None else self.noted_parts())]
         files.renew(self.seal, lambda identity: f"{identity} ".encode() + anchors(lines))
 
+    def seal_as_copy(self) -> None:
+        """Lets the files be known as a copy wherever they come, with what the seal says."""
+        seal = self.sealed()
+        if seal is not None:
+            files.renew(self.seal, f"{NO_FILE} ".encode() + anchors([seal.line, *([seal.part] if seal.part is not None else [])]))
+
     def noted_parts(self) -> list[Line]:
         """The first line of the further part of which is noted beside the first one that it was made last; none where no such part was."""
         seal = self.sealed()
@@ -211,24 +262,6 @@ class OwnLines:
         if last is not None:
             self.put_seal(last, part)
 
-    def expect_no_copy(self, store: Store, last: Line) -> None:
-        """Raises Trouble where the store is a copy, and no peer can tell whether it is an old one: no step is made until a person says so."""
-        if self.is_copy(last):
-            what = f"it and the files beside it {self.why_copied()}"
-            raise Trouble(
-                Status.OLD_STORE,
-                f"the store in {name_of(store.path)} has {count_of(last.step, 'step')}, and {what}: it may be an old one. No step was made",
-                f"Was it put back, or moved? With peers: weft exchange, which asks them. Else, if no later line went out than its last one, name that: "
-                f"{adopting(store)}.",
-            )
-
-    def why_doubted(self, store: Store, last: Line) -> Optional[str]:
-        """Why the store may be an old one, as far as what stands beside it tells; None where it tells nothing of the kind."""
-        begun = self.begun_look()
-        if begun is not None:
-            return f"Since {date_of(begun.since)} the words of peers on the store in {name_of(store.path)} are waited for: it may be an old one"
-        return f"The store in {name_of(store.path)} and the files beside it {self.why_copied()}: it may be an old one" if self.is_copy(last) else None
-
     def why_copied(self) -> str:
         """Why the store counts as a copy."""
         seal = self.sealed()
@@ -238,36 +271,28 @@ class OwnLines:
 
     @property
     def is_there(self) -> bool:
-        """Whether one of the two files has a line."""
-        return self.last() is not None
-
-    def compare(self, store: Store, judge: Bench, last: Line) -> None:
-        """Raises Trouble where the store isn't the one of the last line that was kept."""
-        held = self.last()
-        if held is not None:
-            held_against(store, judge, last, held, f"kept in {name_of(self.place_of(held))}")
+        """Whether a line stands beside it. (That of a backup alone doesn't tell that no later one went out.)"""
+        return bool(self.known) or bool(self.handed_out()) or self.sealed() is not None
 
     def place_of(self, held: Line) -> Path:
         """The file beside the folder that has a line."""
         if held in self.known:
             return self.lines
-        return self.anchor if held in self.read(self.anchor) else self.seal
+        if held in self.read(self.anchor):
+            return self.anchor
+        noted = self.backed_up()
+        return self.backup if noted is not None and noted.line == held else self.seal
 
-    def check(self, store: Store, judge: Bench, last: Line) -> None:
-        """Raises Trouble where the store may make no step: it has some, and isn't the one of the last line that was kept, or none was
-        kept."""
-        if find_missing(last, Beside(self.is_there, False, False)) is Missing.LINES:
-            raise unnamed(store, last, f"neither {name_of(self.lines)} nor {name_of(self.anchor)} stands beside it", "them")
-        self.compare(store, judge, last)
-
-    def adopt(self, store: Store, judge: Bench, last: Line, named: Line) -> None:
-        """Takes the store for the right one, since a person has named its last line; the line is kept, and a look is at its end. Raises
-        Trouble where the named line isn't its last one, or lines beside it are of another store."""
+    @staticmethod
+    def expect_named(store: Store, judge: Bench, last: Line, named: Line) -> None:
+        """Raises Trouble where the line by which a person names the store isn't its last one. (Lines that stand beside it were held against it before.)"""
         proved = proved_lines(store, judge, last, [Told(named, "")]).get(named.step)
         found = compare_named(last, proved, named)
         if found is not Named.LAST:
             raise not_named(store, last, named, found)
-        self.compare(store, judge, last)
+
+    def adopt(self, last: Line) -> None:
+        """Takes the store for the right one, since a person has named its last line: that is kept, and a look is at its end."""
         self.note(last)
         self.end_look(last)
 
@@ -293,14 +318,6 @@ class OwnLines:
         """Peers' words have come, or a person said that the store is the right one."""
         self.put_seal(last)
         files.remove(self.look)
-
-    def expect_no_look(self, store: Store) -> None:
-        """Raises Trouble while peers' words are waited for: no step is made until then."""
-        begun = self.begun_look()
-        if begun is not None:
-            told = f"since {date_of(begun.since)} the words of peers on the store in {name_of(store.path)} are waited for, and no step was made"
-            advice = f"weft exchange says for whom, and ends it. Without peers name its last line: {adopting(store)}."
-            raise Trouble(Status.OLD_STORE, told, advice)
 
     def note(self, line: Line) -> None:
         """Keeps a line of one's own among the others, and as the one to hand out where it is the last. That doesn't say that the files are where they were

@@ -6,10 +6,11 @@ reference, and their labels computed anew by it. Events aren't looked at: each o
 
 from __future__ import annotations
 
-from typing import Iterator
+from typing import Iterator, NamedTuple, Optional
 
-from weft.formats import Malformed, genesis, stores
+from weft.formats import Malformed, fields, genesis, line_of_thread, stores
 from weft.formats import tree_pages as trees
+from weft.lines import Line
 
 STEP, EVENTS, TREE = 1, 2, 3
 NEXT_STEP = "what the store keeps for its next step isn't right"
@@ -71,3 +72,41 @@ def amiss(data: bytes) -> Iterator[tuple[int, str]]:
     last = before.steps.get(root.steps), before.archive, before.threads
     if before.amiss or last != ((root.page, root.authenticator), root.archive, root.threads):
         yield root.steps, "; ".join([*before.amiss, f"{NEXT_STEP}: the record that counts and the pages differ"])
+
+
+# ---- what the pages say, as they stand there
+
+
+class ListedStep(NamedTuple):
+    """A step: its number, the time that it claims, or None, its events, and the line that it received, or None."""
+
+    number: int
+    time: Optional[int]
+    events: list[bytes]
+    received: Optional[Line]
+
+
+def steps_in(data: bytes) -> Iterator[ListedStep]:
+    """The steps of a store's file, in their order, as its pages have them; raises ValueError where it is none of a service, or a page can't be read."""
+    _, body = stores.read_store(data)
+    stores.read_service_root(body.root)
+    for number in range(trees.FIRST, body.used):
+        page = page_at(data, number)
+        if page[0] == STEP:
+            found = stores.read_step_page(page, number)
+            yield ListedStep(found.step, found.time, events_of(data, found), line_of_thread(found.thread))
+
+
+def page_at(data: bytes, number: int) -> bytes:
+    """A page of a store's file."""
+    return data[number * trees.PAGE : (number + 1) * trees.PAGE]
+
+
+def events_of(data: bytes, step: stores.StepPage) -> list[bytes]:
+    """The events of a step, which stand one behind the other over its event pages, each behind its length."""
+    count = -(-step.stream // stores.PIECE)
+    stream = b"".join(stores.read_event_page(page_at(data, step.first + place)).piece for place in range(count))
+    read = fields.Reader(stream[: step.stream], step.stream)
+    events = [read.take(read.number(4, 0, fields.MOST_EVENT)) for _ in range(step.count)]
+    read.end()
+    return events

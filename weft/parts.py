@@ -10,13 +10,12 @@ import re
 from pathlib import Path
 from typing import Collection, NamedTuple, Optional, Sequence
 
-from weft import choosing, files, formats, lines, own, signatures
-from weft.deciding.going_on import Joint, Making, choose_names_to_note, find_later_part, find_missing_part, is_being_made, is_folder_of_part, is_next, named_in, naming_event, next_name
+from weft import files, formats, lines, made, own, signatures
+from weft.deciding.going_on import Joint, Making, choose_names_to_note, find_later_part, is_being_made, is_folder_of_part, is_next, named_in, naming_event, next_name
 from weft.entries import Entries
 from weft.formats import MOST_HISTORY, events_file
 from weft.judges import Bench
 from weft.lines import KeptLines, Line
-from weft.output import complain
 from weft.own import OwnLines
 from weft.statuses import Status
 from weft.stores import Store
@@ -26,7 +25,7 @@ from weft.trouble import Trouble
 # A part ends there: what is left to the limit of an exported history is for a last exchange, and for the step that names the next part.
 MOST_PART = MOST_HISTORY * 3 // 4
 MOST_NEXT = 64
-MOST_OTHERS, MOST_NAMES = 1 << 24, 1_000
+MOST_OTHERS = 1 << 24
 NEXT = re.compile(rb"([1-9][0-9]{0,5}) ([a-z0-9-]{1,16})\n")
 
 
@@ -81,50 +80,23 @@ def parts_of(service: Path, judge: Bench) -> list[Part]:
     return parts
 
 
-def whole(service: Path, judge: Bench) -> list[Part]:
-    """All parts of a log, in their order. Raises Trouble where one is missing, or isn't that of a line that was handed out."""
-    found = parts_of(service, judge)
-    expect_none_missing(service, judge, found)
-    beside_it = OwnLines(service)
-    held = [(line, beside_it.anchor) for line in beside_it.read(beside_it.anchor)] + [(line, beside_it.seal) for line in beside_it.noted_parts()]
-    for part in found[1:]:
-        for line, path in held:
-            if line.service == part.last.service:
-                own.held_against(part.store, judge, part.last, line, f"kept in {name_of(path)}")
-    return found
-
-
-def expect_none_missing(service: Path, judge: Bench, found: Sequence[Part]) -> None:
-    """Raises Trouble where the last part names a further one that isn't being made, or a part isn't there of which a line was handed out."""
-    if being_made(service, judge, found) is None:
-        expect_open(service, judge, found[-1])
-    beside_it = OwnLines(service)
-    handed_out = beside_it.read(beside_it.anchor)
-    line = find_missing_part([part.last.service for part in found], [*handed_out, *beside_it.noted_parts()])
-    if line is not None:
-        path = beside_it.anchor if line in handed_out else beside_it.seal
-        raise Trouble(
-            Status.OLD_STORE,
-            f"{name_of(path)} has a line of step {line.step} of {line.service}, and no part of {name_of(service)} is called so. No step was made",
-            "Was that part moved, or put back without what stood beside it? Put the right one back. If it is lost, go on under a new name.",
-        )
-
-
 def names_of_others(service: Path) -> set[str]:
     """The names that others have, of those that a part of the service could get, as far as its peers know."""
     return set((files.read_if_there(beside(service, ".others"), MOST_OTHERS) or b"").decode("ascii", "replace").split())
 
 
-def note_others(service: Path, peers: Collection[str], heard: Collection[str]) -> None:
-    """Notes these names, those of peers and such as were heard, and forgets none."""
-    found = choose_names_to_note(names_of_others(service), peers, heard, MOST_NAMES)
+def note_others(service: Path, names: Sequence[str], peers: Collection[str], heard: Collection[str]) -> None:
+    """Notes beside the service, whose parts have these names, the names of peers and such as were heard, and forgets none."""
+    found = choose_names_to_note(names, names_of_others(service), peers, heard)
     if found:
         files.renew_if_other(beside(service, ".others"), "".join(f"{name}\n" for name in found).encode(), files.PRIVATE)
 
 
 def name_next(service: Path, found: Sequence[Part], kept: KeptLines) -> Next:
-    """The number and the name of the part behind these: none that another service has, of those that are known, or that a part of its own has."""
-    taken = {*kept.services(), *names_of_others(service), *(part.last.service for part in found)}
+    """The number and the name of the part behind these: none that another service has, of those that are known, or that a part of its own has, or had there before an older
+    backup was put back."""
+    had = made.names_at(folder_of(service, len(found) + 1))
+    taken = {*kept.services(), *kept.others, *names_of_others(service), *(part.last.service for part in found), *had}
     return Next(len(found) + 1, next_name(found[0].last.service, len(found) + 1, taken))
 
 
@@ -132,45 +104,16 @@ def own_kept(is_new: bool = False) -> KeptLines:
     """The user's own kept lines, those of them that count, for a service that may be new; none where the system knows of no folder of this user's own."""
     try:
         lines.default_kept()
-    except Trouble:
+    except Trouble as trouble:
+        if trouble.status is not Status.DISK:
+            raise
         return KeptLines()
     return signatures.counted(lines.own_kept(is_new), None)
 
 
-def expect_kept(judge: Bench, found: Sequence[Part], kept: KeptLines, unmade: str = own.NO_STEP) -> Status:
-    """Raises Trouble where a part isn't that of the last line of its service that the user keeps; of several lines of that step one has to be its own. The
-    answer is how the kept lines were found, where there are steps that could have been held against them."""
-    for text in choosing.uncounted_sentences(kept, [part.last.service for part in found]):
-        complain(text)
-        kept.status = Status.LOOK
-    for part in found:
-        last = kept.at(part.last.service, max(kept.steps(part.last.service), default=0))
-        if last and own.lacks_all(part.store, judge, part.last, [it.line for it in last]):
-            own.held_against(part.store, judge, part.last, last[0].line, f"among the lines that you keep, {last[0].told}; if it isn't its own, take it out there", unmade)
-    later = later_part(found[0].folder, [part.last.service for part in found], kept, f". {unmade}")
-    if later is not None:
-        raise later
-    return kept.status if found[-1].last.step else Status.DONE
-
-
-def find_later(names: Sequence[str], kept: KeptLines, service: Path) -> Optional[Line]:
+def find_later(names: Sequence[str], kept: KeptLines) -> Optional[Line]:
     """The first line that the user keeps of a part behind those of these names; None where there is none."""
-    return find_later_part(names, (it.line for it in kept.all()), names_of_others(service))
-
-
-def later_part(service: Path, names: Sequence[str], kept: KeptLines, unmade: str = "") -> Optional[Trouble]:
-    """That a line which the user keeps tells of a part behind those of these names: they may be old ones. None where no line does."""
-    line = find_later(names, kept, service)
-    if line is None:
-        return None
-    came = kept.all_at(line.service, line.step)[0].told
-    told = f"you keep a line of step {line.step} of {line.service} ({came}), as a further part of {names[0]} would be called, and no part in {name_of(service)} is"
-    others = name_of(beside(service, ".others"))
-    advice = (
-        f"Is that a part of it? Then what stands in {name_of(service)} is old, or that part was lost: put the right one back; a step made here would begin a second "
-        f"history. Is {line.service} another's service? Then note that: echo {line.service} >> {others}"
-    )
-    return Trouble(Status.OLD_STORE, f"{told}{unmade}", advice)
+    return find_later_part(names, (it.line for it in kept.all()), kept.others)
 
 
 def expect_next(judge: Bench, old: Part, new: Part) -> None:
@@ -235,7 +178,7 @@ def being_made(service: Path, judge: Bench, found: Sequence[Part]) -> Optional[N
         return None
     steps = found[-1].last.step if new.number == len(found) else 0
     has_lines = OwnLines(folder_of(service, new.number)).is_there
-    is_noted = any(line.service == new.name for line in OwnLines(service).noted_parts())
+    is_noted = any(line.service == new.name for line in OwnLines(service).noted_parts()) or made.is_noted(folder_of(service, new.number), new.name)
     named = named_by(judge, found[new.number - 2])
     return new if is_being_made(Making(new.number, new.name, len(found), named, steps, has_lines, is_noted)) else None
 
@@ -274,7 +217,8 @@ def make_next(service: Path, judge: Bench, old: Part, new: Next) -> Part:
 
 
 def note_made(service: Path, judge: Bench, part: Part) -> None:
-    """Notes beside the first part that this further one was made, where that isn't noted yet: so it isn't made once more."""
+    """Notes beside the first part, and among the user's own files, that this further one was made, where that isn't noted yet: so it isn't made once more."""
+    made.note(part.folder, part.last.service)
     beside_it = OwnLines(service)
     if all(line.service != part.last.service for line in beside_it.noted_parts()):
         beside_it.note_part(own.line_at(part.store, judge, 1, part.last))
@@ -297,14 +241,3 @@ def hand_out(service: Path, found: Sequence[Part]) -> None:
         own = OwnLines(service)
         own.put_lines(own.anchor, lines.anchors([part.last for part in found]))
 
-
-def expect_open(service: Path, judge: Bench, part: Part) -> None:
-    """Raises Trouble where the part in which a log would go on is at its end, and no further one stands there."""
-    named, folder = named_by(judge, part), folder_of(service, part.number + 1)
-    if named is not None:
-        raise Trouble(
-            Status.OLD_STORE,
-            f"{part.last.service} has ended, and goes on as {named}: no step is made here",
-            f"Put that part back, which lay in {name_of(folder)}, with what stood beside it; or name the folder of the whole log. If it is lost, go on under a new "
-            f"name. Was the event `goes on as {named}` appended by hand: {named}, once its first step received that line, belongs into {name_of(folder)}.",
-        )

@@ -4,17 +4,21 @@ They are 800 pixels wide. A chain of many hops goes on in further bands below. A
 
 from __future__ import annotations
 
-from typing import NamedTuple, Optional
-from xml.sax.saxutils import escape
+import html
+from typing import NamedTuple, Optional, Sequence
 
+from weft.events import drawn_event
 from weft.formats import MapHead
 from weft.lines import Line
+from weft.pages import ListedStep
 from weft.reports import Event, Hop, Report
-from weft.texts import printable, shown_event
+from weft.texts import count_of, printable
 
 WIDTH, LEFT = 800, 150
 ROW, MARGIN, RADIUS = 62, 24, 6
 MOST_HOPS = 4
+# So many steps of a history are drawn.
+MOST_STEPS = 12
 CHARACTERS, LETTER = 90, 7.6
 
 
@@ -52,9 +56,14 @@ STYLE = """text { font: 13px sans-serif; fill: #222; paint-order: stroke; stroke
 .head-hop { fill: #246 } .head-carried { fill: #a30 }"""
 
 
+def escaped(words: str) -> str:
+    """Words as the content of an element."""
+    return html.escape(words, quote=False)
+
+
 def text(x: float, y: float, words: str, kind: str = "", place: str = "start") -> str:
     """A text, escaped."""
-    shown = escape(printable(words), {'"': "&quot;"})
+    shown = escaped(printable(words)).replace('"', "&quot;")
     return f'<text x="{x:.0f}" y="{y:.0f}" text-anchor="{place}" class="{kind}">{shown}</text>'
 
 
@@ -196,7 +205,7 @@ def picture(title: str, captions: list[str], scenes: list[Scene]) -> str:
         for kind in ("hop", "carried")
     )
     ground = f'<rect width="{WIDTH}" height="{y:.0f}" fill="#fff"/>'
-    body = [head, f"<title>{escape(printable(title))}</title>", f"<style>{STYLE}</style>", f"<defs>{heads}</defs>", ground, *parts, *marks]
+    body = [head, f"<title>{escaped(printable(title))}</title>", f"<style>{STYLE}</style>", f"<defs>{heads}</defs>", ground, *parts, *marks]
     return "\n".join([*body, "</svg>\n"])
 
 
@@ -210,7 +219,7 @@ def tops(lines: list[Line]) -> dict[str, int]:
 
 def caption(letter: str, event: Event) -> str:
     """What an event's letter stands for."""
-    return f"{letter}: {event.service}, step {event.step:,}, event {event.index}: {shown_event(event.data)}"
+    return f"{letter}: {event.service}, step {event.step:,}, event {event.index}: {drawn_event(event.data)}"
 
 
 def chain_scene(hops: list[Hop], first: Optional[Node], last: Optional[Node], held: dict[str, int]) -> Scene:
@@ -288,6 +297,39 @@ def fork(report: Report, held: dict[str, int]) -> list[Scene]:
         nodes = [Node(service, int(step)), Node(by, int(archived))]
         scenes.append(Scene(nodes, [Arrow(0, 1, "hop")], [(1, held[by])] if by in held else []))
     return scenes
+
+
+def steps_drawn(steps: Sequence[ListedStep], bound: int) -> list[ListedStep]:
+    """Of a history's steps so many as a picture has room for: all, or the first and last ones, those about the bound one, and the first that received something."""
+    if len(steps) <= MOST_STEPS:
+        return list(steps)
+    last = len(steps)
+    wanted = dict.fromkeys([1, last, bound, min(bound + 1, last), *(step.number for step in steps if step.received is not None), *range(2, MOST_STEPS + 1)])
+    chosen = sorted([number for number in wanted if number][:MOST_STEPS])
+    return [steps[number - 1] for number in chosen]
+
+
+def history_scene(service: str, steps: Sequence[ListedStep], bound: int) -> Scene:
+    """Some steps of a history that follow one another, and what they received; what a line binds where one does."""
+    nodes, arrows, first = list[Node](), list[Arrow](), None
+    for step in steps:
+        if step.received is not None:
+            nodes.append(Node(step.received.service, step.received.step))
+            arrows.append(Arrow(len(nodes) - 1, len(nodes), "carried"))
+        nodes.append(Node(service, step.number))
+        first = len(nodes) - 1 if first is None else first
+    return Scene(nodes, arrows, [(first, bound)] if first is not None and steps[-1].number <= bound else [])
+
+
+def history(service: str, steps: Sequence[ListedStep], bound: int) -> str:
+    """The picture of a whole history that is bound up to a step, 0 for by no line: its steps, or as many of them as there is room for, and what they received."""
+    drawn = steps_drawn(steps, bound)
+    parts = [[step for step in drawn if step.number <= bound], [step for step in drawn if step.number > bound]]
+    scenes = [history_scene(service, part[at : at + MOST_HOPS], bound) for part in parts for at in range(0, len(part), MOST_HOPS)]
+    events, received = sum(len(step.events) for step in steps), sum(step.received is not None for step in steps)
+    captions = [f"{count_of(len(steps), 'step')}, {count_of(events, 'event')}, {count_of(received, 'received line')}", *([f"{len(drawn)} of its steps are drawn"] * (len(drawn) < len(steps)))]
+    bound_told = f"bound up to step {bound:,}" if bound else "bound by no line that you hold"
+    return picture(f"The history of {service}, {bound_told}", captions, scenes)
 
 
 def verdict(report: Report, lines: list[Line], head: Optional[MapHead]) -> str:

@@ -6,10 +6,11 @@ import functools
 import hashlib
 import os
 import re
-import shutil
 import subprocess
-from typing import NamedTuple, Optional, Sequence
+from contextlib import contextmanager, suppress
+from typing import Iterator, NamedTuple, Optional, Sequence
 
+from weft import files
 from weft.statuses import Status
 from weft.texts import name_of, printable
 from weft.trouble import Trouble
@@ -48,8 +49,10 @@ MOST_STARTER = 4_096
 
 @functools.lru_cache(maxsize=None)
 def found() -> Optional[str]:
-    """The path of the program: what TIMEWEAVE_PROGRAM names, else that of the path. What lies beside a weft that was copied may be a sender's."""
-    path = shutil.which(os.environ.get("TIMEWEAVE_PROGRAM") or "timeweave")
+    """The path of the program: what TIMEWEAVE_PROGRAM names, else that of the path. What lies beside a weft that was copied may be a sender's, and so may what is named
+    from the current folder on: that is refused."""
+    named = os.environ.get("TIMEWEAVE_PROGRAM")
+    path = files.which(os.fspath(files.named_by("TIMEWEAVE_PROGRAM") or "") if named and os.path.dirname(named) else named or "timeweave")
     return os.path.realpath(path) if path else None
 
 
@@ -86,14 +89,62 @@ def run(*words: str, handles: Sequence[int] = ()) -> Answer:
     """Runs the program with these words, and with these open files; a store that it makes may be read by this user alone. Raises Trouble
     where it can't be started or ended by a signal."""
     null, pipe = subprocess.DEVNULL, subprocess.PIPE
-    try:
+    with starting():
         done = subprocess.run([needed(), *words], stdin=null, stdout=pipe, stderr=pipe, check=False, umask=PRIVATE_UMASK, pass_fds=handles)
+    expect_answer(done.returncode, done.stderr)
+    return Answer(done.returncode, done.stdout)
+
+
+@contextmanager
+def starting() -> Iterator[None]:
+    """Raises Trouble where the program can't be started."""
+    try:
+        yield
     except OSError as failure:
         raise Trouble(Status.NO_JUDGE, f"timeweave can't be started: {os.strerror(failure.errno or 0)}") from None
     except ValueError:
         raise Trouble(Status.USAGE, "a word has a zero byte, and no command takes one") from None
-    expect_answer(done.returncode, done.stderr)
-    return Answer(done.returncode, done.stdout)
+
+
+class Begun:
+    """A run of the program that was started ahead, and waits for the last word's file, without which it does nothing: the end of this process too leaves it without."""
+
+    def __init__(self, *words: str):
+        reading, self.writing = os.pipe()
+        null, pipe = subprocess.DEVNULL, subprocess.PIPE
+        try:
+            with starting():
+                path = f"/proc/self/fd/{reading}"
+                all_words = [needed(), *(path if word == WAITED else word for word in words)]
+                self.running = subprocess.Popen(all_words, stdin=null, stdout=pipe, stderr=pipe, umask=PRIVATE_UMASK, pass_fds=[reading])
+        except BaseException:
+            os.close(self.writing)
+            raise
+        finally:
+            os.close(reading)
+
+    def feed(self, data: bytes) -> None:
+        """Hands the file over. (One that ended before it read all tells why.)"""
+        try:
+            with suppress(BrokenPipeError):
+                files.write_all(self.writing, data)
+        finally:
+            os.close(self.writing)
+
+    def answer(self) -> Answer:
+        """What it answered."""
+        output, errors = self.running.communicate()
+        expect_answer(self.running.returncode, errors)
+        return Answer(self.running.returncode, output)
+
+    def leave(self) -> None:
+        """Lets it end without a file."""
+        os.close(self.writing)
+        self.running.communicate()
+
+
+# What stands for the file among the words of a run that is started ahead.
+WAITED = "-"
 
 
 def expect_answer(status: int, errors: bytes = b"") -> None:

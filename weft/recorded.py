@@ -15,7 +15,7 @@ from weft.parts import Part
 from weft.progress import with_progress
 from weft.statuses import Status
 from weft.stores import Store
-from weft.texts import name_of, shown_event
+from weft.texts import beside, name_of, shown_event, steps_of
 from weft.trouble import Trouble
 
 # So many steps behind the last entry are looked at in each run: that takes less than a second.
@@ -27,19 +27,27 @@ def events_of(store: Store, judge: Bench, last: Line, first: int = 1) -> Iterato
         yield step, [own.event_at(store, judge, step, index, last) for index in range(store.count(step, last.step))]
 
 
-def exported_events(store: Store, judge: Bench, last: Line, unmade: str = NO_STEP) -> Iterator[tuple[int, list[bytes]]]:
-    """The same of the export, or where that is too long, of the proofs. Raises Trouble where the export isn't a history of the last line: its pages are read as
+def history_of(store: Store, last: Line, unmade: str = NO_STEP) -> Optional[formats.ReadHistory]:
+    """The history that the store exports, read once; None where it is too long for that. Raises Trouble where it isn't one of the last line: its pages are read as
     they stand."""
     answer = store.ask("export")
     if answer.status:
-        yield from events_of(store, judge, last)
-        return
+        return None
     history = formats.timeline_of(answer.output)
     if history is None or history.authenticators[last.step : last.step + 1] != [last.authenticator]:
         told = f"the store in {name_of(store.path)} has events that aren't those of its own last line"
         raise Trouble(Status.BAD_STORE, told, f"It is damaged, or was written over: go back to a backup, and look at the device. {unmade}.")
-    for step, it in enumerate(formats.read_history(answer.output), 1):
-        yield step, it.events
+    return history
+
+
+def exported_events(store: Store, judge: Bench, last: Line, unmade: str = NO_STEP) -> Iterator[tuple[int, list[bytes]]]:
+    """The same of the export, or where that is too long, of the proofs."""
+    history = history_of(store, last, unmade)
+    if history is None:
+        yield from events_of(store, judge, last)
+        return
+    for step, events in enumerate(history.timeline.steps, 1):
+        yield step, list(events)
 
 
 def is_of_log(events: Sequence[bytes]) -> bool:
@@ -110,6 +118,21 @@ def expect_near_end(service: Path, judge: Bench, part: Part) -> None:
     step = find_behind(part.store, judge, part.last, kept) if part.last.step - kept <= MOST_BEHIND else None
     if step is not None:
         raise missing_entries(service, part.entries, step)
+
+
+def is_log(first: Part) -> bool:
+    """Whether a service, of which this is the first part, is a log: its entries stand there."""
+    return first.entries.is_there and first.entries.size() > 0
+
+
+def strange_steps(part: Part, noted: Optional[Line]) -> Optional[str]:
+    """That steps with events stand behind the last noted line of a log's part, which no run of weft log made: before they are noted too this is told, whoever notes
+    them. None where there are none. (Steps without events are those that received a line, or tell nothing; those of a run that was stopped are brought to their end
+    by the next one.)"""
+    if noted is None or files.is_there(beside(part.folder, ".pending")):
+        return None
+    strange = [step for step in range(noted.step + 1, part.last.step + 1) if part.store.count(step, part.last.step)]
+    return f"{steps_of(strange)} of {part.last.service}: no run of weft log made such a step with events; their entries aren't kept." if strange else None
 
 
 def find_behind(store: Store, judge: Bench, last: Line, kept: int) -> Optional[int]:

@@ -4,12 +4,13 @@ from __future__ import annotations
 
 import re
 from dataclasses import dataclass
-from typing import NamedTuple, Optional
+from typing import Collection, NamedTuple, Optional
 
+from weft.events import told_event
 from weft.judges import Verdict
 from weft.lines import Line
 from weft.sentences import REASONS, RULES, Reason, fill
-from weft.texts import date_of, shown_event
+from weft.texts import date_of, listed
 
 
 @dataclass(frozen=True)
@@ -91,6 +92,13 @@ def read_report(verdict: Verdict) -> Report:
     return Report(head[1], events, hops, others, carried)
 
 
+def without_held(report: Report, held: Collection[Line]) -> Report:
+    """The report where these of the lines that it carries are kept ones: each of them binds its hop as any other line does."""
+    bound = {(line.service, line.step) for line in held}
+    hops = [hop._replace(is_carried=hop.is_carried and (hop.service, hop.step) not in bound) for hop in report.hops]
+    return report._replace(hops=hops, carried=tuple(line for line in report.carried if line not in held))
+
+
 def told_lines(report: Report) -> list[Line]:
     """The lines of other steps than those that it is judged under, which it tells: that of a link, of a received thread, and those that it carries."""
     link, thread = report.other("link"), report.other("thread")
@@ -104,25 +112,51 @@ def told_lines(report: Report) -> list[Line]:
 
 def event_sentences(event: Event) -> list[str]:
     """What the report says of an event."""
-    told = [fill("event", service=event.service, step=event.step, index=event.index, event=shown_event(event.data))]
+    told = [fill("event", service=event.service, step=event.step, index=event.index, event=told_event(event.data))]
     return told if event.time is None else [*told, fill("time", service=event.service, step=event.step, time=date_of(event.time))]
 
 
-def hop_sentences(report: Report) -> list[str]:
-    """The way from the first event to the second, and what is carried on it."""
+def order_sentences(report: Report) -> list[str]:
+    """Two events, and the way from the first one to the second."""
     first, second = report.events
+    told = [*event_sentences(first), *event_sentences(second)]
     if not report.hops:
-        return [fill("order in one history", first=first.step, second=second.step)]
-    told = [f"{fill('order')}, by this way:"]
-    told += [f"  {fill('hop', **hop._asdict())}{'; CARRIED' if hop.is_carried else ''}" for hop in report.hops]
+        return [*told, fill("order in one history", first=first.step, second=second.step)]
     carried = [hop for hop in report.hops if hop.is_carried]
+    if carried:
+        return word_sentences(report, carried)
+    return [*told, f"{fill('order')}, by this way:", *way_sentences(report), fill("bound")]
+
+
+def way_sentences(report: Report) -> list[str]:
+    """The hops, each as a row of its own."""
+    return [f"  {fill('hop', **hop._asdict())}{'; CARRIED' if hop.is_carried else ''}" for hop in report.hops]
+
+
+def whose_word(report: Report) -> str:
+    """On whose word it rests: of those who received what is carried, each of whom could have made it up."""
+    return listed([f"{by}'s" for by in dict.fromkeys(hop.by for hop in report.hops if hop.is_carried)])
+
+
+def is_on_word(report: Report, place: int) -> bool:
+    """Whether an event of a proof is on somebody's word: the first one, where the first hop is carried."""
+    return place == 0 and bool(report.hops) and report.hops[0].is_carried
+
+
+def word_sentences(report: Report, carried: list[Hop]) -> list[str]:
+    """The same where it rests on somebody's word: what is so by that alone, what is shown by lines, what isn't, and what to do."""
+    (first, second), whose = report.events, whose_word(report)
+    if is_on_word(report, 0):
+        told = [fill("by word", whose=whose, told=text) for text in event_sentences(first)]
+        told += [f"{fill('word order', service=second.service, step=second.step)}, by this way:", *way_sentences(report)]
+        told += [fill("shown by lines", told=text) for text in event_sentences(second)]
+    else:
+        told = [*event_sentences(first), *event_sentences(second), f"{fill('by word', whose=whose, told=fill('order'))}, by this way:"]
+        told += [*way_sentences(report), fill("both by lines")]
+    told += [fill("account", **hop._asdict()) for hop, after in zip(report.hops, [*report.hops[1:], None]) if hop.is_carried and (after is None or not after.is_carried)]
     told += [fill("carried", **hop._asdict()) for hop in carried]
-    return [*told, carried_sentence(len(carried), len(report.hops))]
-
-
-def carried_sentence(count: int, hops: int) -> str:
-    """How many of the hops are carried."""
-    return fill("carried hops" if count > 1 else "one carried" if count else "bound", count=count, all=hops)
+    steps = listed([f"step {hop.step} of {hop.service}" for hop in carried])
+    return [*told, f"What to do: {fill('ask for links', steps=steps, by=listed(list(dict.fromkeys(hop.by for hop in carried))))}"]
 
 
 def thread_sentences(words: list[str]) -> list[str]:
@@ -221,9 +255,9 @@ def sentences(report: Report, broken: Optional[Verdict] = None) -> list[str]:
     """What an accepted proof says; of evidence, with what the judge says of who received both."""
     if report.kind == "fork":
         return fork_sentences(report, broken)
-    told = [sentence for event in report.events for sentence in event_sentences(event)]
     if report.kind == "precedes":
-        return told + hop_sentences(report)
+        return order_sentences(report)
+    told = [sentence for event in report.events for sentence in event_sentences(event)]
     return told + [sentence for words in report.others for sentence in other_sentences(words)]
 
 

@@ -8,10 +8,10 @@ from contextlib import contextmanager
 from pathlib import Path
 from typing import Iterator, NamedTuple, Optional
 
-from weft import program
+from weft import files, program
 from weft.files import AnyPath, write_all
 from weft.lines import Line, checked_name, read_line
-from weft.program import Answer
+from weft.program import WAITED, Answer, Begun
 from weft.statuses import Status
 from weft.texts import name_of
 from weft.trouble import Trouble
@@ -57,7 +57,7 @@ class Store:
     @property
     def file(self) -> Path:
         """The file of the store."""
-        return self.folder / "timeline.tw"
+        return self.folder / files.STORE
 
     def ask(self, *words: str) -> Answer:
         """Runs a command on the folder."""
@@ -105,10 +105,17 @@ class Store:
             raise Trouble(Status.BUG, f"timeweave told no message of {name_of(self.path)}")
         return Last(formats.line_of(message), answer.output)
 
+    def begin_append(self, time: Optional[int]) -> Optional[Begun]:
+        """A run of the program that appends a step once it is handed its events; None where open files have no paths."""
+        return Begun("append", self.path, WAITED, *([] if time is None else [str(time)])) if os.path.isdir(OPEN_FILES) else None
+
     def append(self, events: bytes, time: Optional[int]) -> Line:
         """Appends a step of the events of an events file, and answers its line. Where the time is refused since an earlier step claims a
         later one, raises ClockBack, and no step is made."""
-        answer = self.hand("append", events, *([] if time is None else [str(time)]))
+        return self.appended(self.hand("append", events, *([] if time is None else [str(time)])))
+
+    def appended(self, answer: Answer) -> Line:
+        """The line of a step that the program answers to have appended."""
         if answer.words[:2] == ["refused", "ClockBack"]:
             raise ClockBack(self.trouble(answer), int(answer.words[2]))
         if answer.status:

@@ -7,10 +7,12 @@ import itertools
 from typing import Any, Iterable, Iterator
 
 from weft import formats, reports, signatures
+from weft.deciding.bundles import Unfit, read_bundle
+from weft.events import told_event
 from weft.judges import Verdict
 from weft.lines import Kept, KeptLines, read_kept, read_line, read_mark
 from weft.progress import with_progress
-from weft.texts import count_of, date_of, printable, quoted, shown_event
+from weft.texts import count_of, date_of, printable, quoted
 from weft.trouble import Trouble
 
 from timeweave_reference import events_files, evidence, fields, histories, map_files, messages, precedence, proofs, receipts, verdicts
@@ -46,7 +48,7 @@ def tell_proof(data: bytes) -> tuple[str, list[str]]:
         return "proof that one event precedes another", [*tell_chain(proof), under]
     if isinstance(proof, proofs.ExistenceProof):
         claimed = f"that {proof.service} recorded in its step {proof.step}{time_of(proof.opening.time)}, as event {proof.event.index} of "
-        return "proof of an event", [f"{claimed}{proof.opening.count}: {shown_event(proof.event.event)}", under]
+        return "proof of an event", [f"{claimed}{proof.opening.count}: {told_event(proof.event.event)}", under]
     if isinstance(proof, proofs.ThreadProof):
         entry = proof.entry
         told = f"that {proof.service} had received step {entry.step} of {entry.service}, authenticator {entry.authenticator.hex()}, by its step "
@@ -61,12 +63,12 @@ def tell_proof(data: bytes) -> tuple[str, list[str]]:
 def tell_chain(proof: precedence.PrecedenceProof) -> Iterator[str]:
     """The events and hops of a proof of precedence, from the first event to the second."""
     first, second = proof.first_event, proof.event
-    yield f"first event: {proof.first_service}, step {proof.first_step}{time_of(proof.first_opening.time)}, event {first.index}: {shown_event(first.event)}"
+    yield f"first event: {proof.first_service}, step {proof.first_step}{time_of(proof.first_opening.time)}, event {first.index}: {told_event(first.event)}"
     recorders = [proof.service, *(hop.entry.service for hop in proof.hops)]
     for hop, by in reversed(list(zip(proof.hops, recorders))):
         bound = f"bound by the line of step {hop.bind} of {hop.entry.service}" if hop.bind else "carried: no line binds it"
         yield f"hop: {by} received step {hop.entry.step} of {hop.entry.service} at its step {hop.entry.archived}; {bound}"
-    yield f"second event: {proof.service}, step {proof.step}{time_of(proof.opening.time)}, event {second.index}: {shown_event(second.event)}"
+    yield f"second event: {proof.service}, step {proof.step}{time_of(proof.opening.time)}, event {second.index}: {told_event(second.event)}"
 
 
 def tell_map(data: bytes) -> tuple[str, list[str]]:
@@ -132,7 +134,7 @@ def tell_history(data: bytes) -> tuple[str, list[str]]:
 def tell_events(data: bytes) -> tuple[str, list[str]]:
     """An events file."""
     found = events_files.read_events(data)
-    told = (f"event {index}: {shown_event(event)}" for index, event in enumerate(found))
+    told = (f"event {index}: {told_event(event)}" for index, event in enumerate(found))
     return f"events file of {count_of(len(found), 'event')}", list(several(told, len(found), "events", MOST_EVENTS))
 
 
@@ -203,10 +205,18 @@ def disputes_in(data: bytes) -> list[str]:
     return [f"of step {step} of {service} there are lines that contradict, and none was chosen" for service, step in kept.disputes()]
 
 
+def tell_bundle(data: bytes) -> tuple[str, list[str]]:
+    """What a bundle has."""
+    found = read_bundle(data)
+    if isinstance(found, Unfit):
+        raise ValueError(f"It is no bundle of weft: {found.value}")
+    return "a bundle", [f"{name} ({count_of(len(part), 'byte')})" for name, part in found.items()]
+
+
 TELLERS = {
     "event": tell_proof, "precedence": tell_proof, "thread": tell_proof, "absence": tell_proof, "link": tell_proof, "low map": tell_map,
     "high map": tell_map, "message": tell_message, "receipts": tell_receipts, "evidence": tell_evidence, "history": tell_history,
-    "events": tell_events, "text": tell_text,
+    "events": tell_events, "text": tell_text, "bundle": tell_bundle,
 }  # fmt: skip
 
 

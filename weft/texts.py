@@ -8,6 +8,7 @@ from datetime import datetime, timezone
 from pathlib import Path
 from typing import Sequence, Union
 
+from weft.deciding.commands import type_name
 from weft.statuses import Status
 from weft.trouble import Trouble
 
@@ -70,6 +71,11 @@ def name_of(path: Union[str, os.PathLike[str]]) -> str:
     if all(NAME_LETTERS.match(letter) or (letter.isalpha() and PLAIN.match(letter)) for letter in front):
         return printable(text)
     return quoted(front) + ("…" if len(text) > MOST_SHOWN else "")
+
+
+def typed(path: Union[str, os.PathLike[str]], else_told: str = "FILE") -> str:
+    """The path as it stands in a command that a person is told to type; the word for it where it can't be typed."""
+    return type_name(os.fspath(path)) or else_told
 
 
 def shown_event(data: bytes) -> str:

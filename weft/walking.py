@@ -31,8 +31,9 @@ PIECE = 1 << 20
 TRIES, PAUSE = 2, 0.025
 # The most bytes of a file that is logged: a file without content may be said to have many more.
 MOST_FILE = 1 << 40
+# What stands beside a service of weft record, and beside no log.
+OF_RECORDS = (".records", ".keys")
 MOST_WAITING, MOST_FOLDERS, MOST_KINDS = 512, 128, 10_000
-OWN_SUFFIXES = (".lines", ".anchor", ".entries", ".pending", ".lock", ".look", ".seal", ".known", ".next", ".others")
 
 
 class Place(NamedTuple):
@@ -122,7 +123,7 @@ class Look:
         self.open = 0
         self.parent = place_of(os.stat(service.parent))
         self.store = place_of(os.stat(service)) if files.is_there(service) else None
-        self.own_names = {os.fsencode(service.name + suffix) for suffix in OWN_SUFFIXES}
+        self.own_names = {os.fsencode(service.name + suffix) for suffix in files.OWN_ENDS if suffix not in OF_RECORDS}
 
     def look(self, records: Iterable[Known]) -> Iterator[Seen]:
         """Looks: what is in the folder beside what is known of it, in the order of paths."""
@@ -224,7 +225,10 @@ class Look:
         try:
             number = os.open(name, os.O_RDONLY | os.O_DIRECTORY | os.O_CLOEXEC | (0 if above is None else os.O_NOFOLLOW), dir_fd=above)
             place = place_of(os.fstat(number))
-            names = [] if place == self.store else sorted(os.fsencode(it) for it in os.listdir(number))
+            names = sorted(os.fsencode(it) for it in os.listdir(number))
+            if place == self.store:
+                self.tell_strange(path, names)
+                names = []
             self.open += 1
             return Entered(number, path, iter([it for it in names if place != self.parent or not self.is_own(it, path + b"/" + it)]))
         except OSError as failure:
@@ -233,6 +237,15 @@ class Look:
             if above is None or not isinstance(failure, FileNotFoundError):
                 self.leave_out(path, f"it can't be read: {os.strerror(failure.errno or 0)}")
             return None
+
+    def tell_strange(self, path: bytes, names: Iterable[bytes], is_first: bool = True) -> None:
+        """Tells what stands in the folder of the store, or of a further part of it, and is none of its files."""
+        for name in names:
+            inside, whole = path + b"/" + name, os.path.join(self.root, path, name)
+            if not gone.is_of_store(name, files.OWN_ENDS, is_first):
+                self.leave_out(inside, "it lies in the folder of the log itself, of which nothing is logged")
+            elif is_first and kind_at(whole) is Kind.FOLDER:
+                self.tell_strange(inside, sorted(os.listdir(whole)), False)
 
     def is_own(self, name: bytes, path: bytes) -> bool:
         """Whether it is a file of the log itself, or one that a run that was killed left of it. The latter is left out: somebody else may have put it there."""
@@ -276,20 +289,27 @@ class Look:
 
 
 def read(file: File) -> Optional[Content]:
-    """What is read of a file; None where it was changed while it was read, and while it was read once more. Raises Trouble where it
-    can't be opened."""
-    for number in range(TRIES):
-        time.sleep(PAUSE if number else 0)
-        digest = hashlib.sha256()
-        with os.fdopen(files.opened(os.fsdecode(file.name), follow=False, within=file.folder.number), "rb", buffering=0) as opened:
-            before, began = state_of(os.fstat(opened.fileno())), time.time_ns()
-            if before.size > MOST_FILE:
-                raise Trouble(Status.UNREADABLE, f"it has {before.size:,} bytes, and of more than {MOST_FILE:,} no file is read")
-            left = before.size + 1
-            while left > 0 and (piece := opened.read(min(left, PIECE))):
-                digest.update(piece)
-                left -= len(piece)
-            behind = state_of(os.fstat(opened.fileno()))
-            if left and gone.was_still(before, behind, began):
-                return Content(digest.hexdigest().encode(), behind, began)
-    return None
+    """What is read of a file; None where it was changed while it was read, and while it was read once more. One that was changed less than a minute before is read
+    twice: what is written through a mapping meanwhile may leave its times as they are. Raises Trouble where it can't be opened."""
+    content = next((it for number in range(TRIES) if (it := read_once(file, PAUSE if number else 0)) is not None), None)
+    if content is None or known.is_at_rest(content.state, content.began):
+        return content
+    again = read_once(file, 0)
+    return again if again is not None and again.digest == content.digest else None
+
+
+def read_once(file: File, pause: float) -> Optional[Content]:
+    """What is read of a file after a pause, in seconds; None where it was changed meanwhile."""
+    time.sleep(pause)
+    digest = hashlib.sha256()
+    with os.fdopen(files.opened(os.fsdecode(file.name), follow=False, within=file.folder.number), "rb", buffering=0) as opened:
+        before, began = state_of(os.fstat(opened.fileno())), time.time_ns()
+        if before.size > MOST_FILE:
+            raise Trouble(Status.UNREADABLE, f"it has {before.size:,} bytes, and of more than {MOST_FILE:,} no file is read")
+        left = before.size + 1
+        while left > 0 and (piece := opened.read(min(left, PIECE))):
+            digest.update(piece)
+            left -= len(piece)
+        behind = state_of(os.fstat(opened.fileno()))
+        is_still = left and gone.was_still(before, behind, began)
+        return Content(digest.hexdigest().encode(), behind, began) if is_still else None

@@ -14,7 +14,13 @@ import ctypes
 import os
 from dataclasses import dataclass, field
 from pathlib import Path
-from typing import Any, Callable, Dict, List, NoReturn, Optional, Tuple, Union
+from typing import TYPE_CHECKING, Any, Callable, Dict, List, NoReturn, Optional, Tuple, Union
+
+if TYPE_CHECKING:
+    from timeweave_recording import Receipt as Receipt
+    from timeweave_recording import RefusedEvent as RefusedEvent
+    from timeweave_recording import Service as Service
+    from timeweave_recording import Unknown as Unknown
 
 ACCEPTED, REJECTED, NO_MEMORY, UNREADABLE = 0, 1, 6, 9
 BAD_ANCHORS = UNREADABLE
@@ -441,10 +447,18 @@ def library_of(folder: Path) -> Optional[Path]:
     return path if mark is not None and (top / mark).is_file() and path.is_file() else None
 
 
+def library_named() -> Optional[str]:
+    """What TIMEWEAVE_LIBRARY names, where it is set; raises OSError where it names a file from the current folder on: that may be somebody else's, who sent the folder."""
+    named = os.environ.get("TIMEWEAVE_LIBRARY")
+    if named and os.path.dirname(named) and not os.path.isabs(named):
+        raise OSError(f"TIMEWEAVE_LIBRARY names {named} from the current folder on; name it from the root on")
+    return named
+
+
 def library() -> Library:
     """The library, loaded once."""
     if not LOADED:
-        LOADED.append(Library(os.environ.get("TIMEWEAVE_LIBRARY") or library_of(HERE) or "libtimeweave.so.1"))
+        LOADED.append(Library(library_named() or library_of(HERE) or "libtimeweave.so.1"))
     return LOADED[0]
 
 
@@ -501,3 +515,15 @@ def receiver(evidence: Data, anchors: Lines, link: Data = b"") -> Contradiction:
 def version() -> str:
     """The version of the library."""
     return library().version()
+
+
+# ---- recording
+
+
+def __getattr__(name: str) -> Any:
+    """What records events stands in a file of its own, `timeweave_recording.py`, which is loaded where it is asked for."""
+    if name in ("Receipt", "RefusedEvent", "Service", "Unknown"):
+        import timeweave_recording
+
+        return getattr(timeweave_recording, name)
+    raise AttributeError(f"module {__name__!r} has no attribute {name!r}")

@@ -3,8 +3,9 @@
 import unittest
 
 from weft.deciding.choosing import (
-    Beside, Chosen, Extent, Headline, HeldHistory, Needed, choose_headline, choose_headline_unheld, choose_history_headline, choose_later_step, choose_lines,
-    choose_older_step, choose_unknown, choose_whom_to_ask, hold_history, hold_line, measure_extent,
+    Beside, Chosen, Extent, Headline, HeldHistory, Needed, choose_headline, choose_headline_unheld, choose_history_headline, choose_holders, choose_later_step,
+    choose_lines,
+    choose_older_step, choose_unknown, choose_whom_to_ask, hold_history, hold_line, list_received, measure_extent,
 )  # fmt: skip
 from weft.deciding.lines import Line
 
@@ -64,6 +65,16 @@ class HoldHistory(unittest.TestCase):
     def test_under_two_kept_lines_of_one_step_nothing_is_bound(self) -> None:
         held = hold_history(OWN, [TRUE[4], other(4), TRUE[2], TRUE[2]])
         self.assertEqual(held, HeldHistory([other(4)], [TRUE[2], TRUE[4]], TRUE[2]))
+
+
+class ListReceived(unittest.TestCase):
+    """The lines that a history shows as received."""
+
+    def test_they_are_those_of_its_steps_up_to_the_one_that_is_bound_each_once(self) -> None:
+        threads = [None, other(3, "shop"), other(0, "port"), other(3, "shop"), other(4, "shop")]
+        self.assertEqual(list_received(threads, 4), [other(3, "shop")])
+        self.assertEqual(list_received(threads, 5), [other(3, "shop"), other(4, "shop")])
+        self.assertEqual(list_received(threads, 1), [])
 
 
 class MeasureExtent(unittest.TestCase):
@@ -182,6 +193,24 @@ class ChooseHistoryHeadline(unittest.TestCase):
             Extent.CONTRADICTED: Headline.NOT_SHOWN, Extent.WHOLE: Headline.SHOWN, Extent.PART: Headline.IN_PART, Extent.UNBOUND: Headline.NOT_JUDGED,
         }  # fmt: skip
         self.assertEqual({extent: choose_history_headline(extent) for extent in Extent}, wanted)
+
+
+class Holders(unittest.TestCase):
+    """Who may have a line that somebody lacks."""
+
+    def test_those_who_received_that_step_or_a_later_one_the_earliest_first(self) -> None:
+        received = [("registry", 7, "port"), ("registry", 5, "bank"), ("registry", 4, "mill"), ("bank", 9, "mill"), ("registry", 5, "bank")]
+        known = ["port", "bank", "mill"]
+        self.assertEqual(choose_holders(Needed("registry", 5), received, known), ["bank", "port"])
+        self.assertEqual(choose_holders(Needed("registry", 8), received, known), [])
+
+    def test_nobody_whom_receipts_name_alone(self) -> None:
+        received = [("registry", 5, "made-up"), ("registry", 6, "bank")]
+        self.assertEqual(choose_holders(Needed("registry", 5), received, ["bank"]), ["bank"])
+
+    def test_never_the_keeper_and_three_at_most(self) -> None:
+        received = [("registry", 5, name) for name in ("registry", "a", "b", "c", "d")]
+        self.assertEqual(choose_holders(Needed("registry", 5), received, ["registry", "a", "b", "c", "d"]), ["a", "b", "c"])
 
 
 if __name__ == "__main__":

@@ -5,7 +5,8 @@ import unittest
 from typing import Optional
 
 from weft import packages
-from weft.deciding.contradicting import Differing, Lacked, Pair, Received, Told, find_denied, find_pairs, find_two_lines, list_entries, may_count, read_told
+from weft.deciding.contradicting import Differing, Doubted, Hop, Lacked, Pair, Received, Told, find_denied, find_doubted, find_histories_apart, find_pairs, find_two_lines, list_entries, may_count, read_told
+from weft.deciding.contradicting import Whole as Recorded
 from weft.deciding.lines import LAST_STEP, Line
 
 X, Y = "a" * 64, "b" * 64
@@ -64,10 +65,40 @@ class MayCount(unittest.TestCase):
     """What files of services that broke a rule show of others."""
 
     def test_what_such_a_service_received_shows_nothing_and_its_own_lines_count(self) -> None:
-        own, other, told = Line("notary", 9, X), Line("shop", 5, X), entry(5, 2)
-        pairs: list[tuple[Optional[Told], set[str]]] = [(told, set()), (told, {"shop"}), (None, {"notary"})]
-        self.assertEqual([may_count(line, told, {"notary"}) for line in (own, other)], [True, False])
+        own, other = Line("notary", 9, X), Line("shop", 5, X)
+        pairs: list[tuple[Optional[str], set[str]]] = [("notary", set()), ("notary", {"shop"}), (None, {"notary"})]
+        self.assertEqual([may_count(line, "notary", {"notary"}) for line in (own, other)], [True, False])
         self.assertEqual([may_count(other, it, broken) for it, broken in pairs], [True, True, True])
+
+
+class FindHistoriesApart(unittest.TestCase):
+    """Whole histories beside one another."""
+
+    def test_one_that_received_another_line_than_a_second_one_has_or_received_is_named(self) -> None:
+        shop, true, other = Recorded("shop", ["0" * 64, X, Y], []), Line("shop", 2, Y), Line("shop", 2, X)
+        bank, port = Recorded("bank", ["0" * 64], [true]), Recorded("port", ["0" * 64], [other, Line("shop", 0, Y), Line("shop", 9, X)])
+        self.assertEqual(find_histories_apart([shop, bank]), [])
+        self.assertEqual(find_histories_apart([shop, port]), [Differing(1, 0, other, true)])
+        self.assertEqual(find_histories_apart([bank, port]), [Differing(0, 1, true, other)])
+        self.assertEqual(find_histories_apart([port]), [])
+        self.assertEqual(find_histories_apart([shop, Recorded("mill", ["0" * 64], [Line("shop", 3, X)])]), [])
+
+
+class FindDoubted(unittest.TestCase):
+    """What chains and evidence show by the word of services that broke a rule."""
+
+    def test_it_goes_on_over_carried_steps_until_a_line_binds_one(self) -> None:
+        lines = [Line(name, 3, X) for name in ("bank", "shop", "port", "mill")]
+        beside = Line("other", 9, Y)
+
+        def chain(*bound: bool) -> list[Hop]:
+            return [Hop(by, line, is_bound, [beside]) for by, line, is_bound in zip(("notary", "bank", "shop", "port"), lines, bound)]
+
+        self.assertEqual(find_doubted(chain(False, False, False, False), {"mill"}), Doubted([], False))
+        self.assertEqual(find_doubted(chain(False, False, False, False), {"port"}), Doubted([beside, lines[3]], True))
+        self.assertEqual(find_doubted(chain(True, False, True, False), {"bank"}), Doubted([beside, lines[1], beside], False))
+        self.assertEqual(find_doubted(chain(True, True, True, True), {"notary"}), Doubted([beside], False))
+        self.assertEqual(find_doubted([], {"notary"}), Doubted([], False))
 
 
 class FindPairs(unittest.TestCase):

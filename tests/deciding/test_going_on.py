@@ -7,6 +7,7 @@ from weft.deciding.going_on import (
     Joint,
     Making,
     choose_names_to_note,
+    end_counts,
     find_later_part,
     find_missing_part,
     is_behind_end,
@@ -94,18 +95,35 @@ class Later(unittest.TestCase):
         self.assertEqual(number_of_part("a-name-of-16-abc", "a-name-of-16-a-2"), 2)
 
 
+class Ended(unittest.TestCase):
+    """Whether a peer's part has ended."""
+
+    def test_no_end_outlives_its_key(self) -> None:
+        self.assertTrue(end_counts(True, [], ""))
+        self.assertFalse(end_counts(False, [], ""))
+        self.assertFalse(end_counts(False, ["SHA256:a"], "SHA256:a"))
+
+    def test_a_key_that_a_person_noted_of_the_part_is_his_word(self) -> None:
+        self.assertTrue(end_counts(False, ["SHA256:a", "SHA256:b"], "SHA256:a"))
+        self.assertTrue(end_counts(False, ["SHA256:b"], ""))
+
+
 class Noted(unittest.TestCase):
     """Which names of others are noted."""
 
-    def test_of_peers_each_and_of_heard_ones_so_many(self) -> None:
-        self.assertEqual(choose_names_to_note(["a-9"], ["a-8"], ["a-2", "a-3", "a-4"], 4), ["a-2", "a-3", "a-8", "a-9"])
-        self.assertEqual(choose_names_to_note(["a-5", "a-6"], ["a-7"], ["a-2"], 2), ["a-5", "a-6", "a-7"])
-        self.assertEqual(choose_names_to_note(["a-5"], ["a-5"], ["a-5", "a-2"], 2), ["a-2", "a-5"])
-        self.assertEqual(choose_names_to_note([], [], [], 2), [])
+    def test_of_peers_each_and_of_heard_ones_those_that_a_next_part_could_get(self) -> None:
+        self.assertEqual(choose_names_to_note(["a"], ["a-900"], ["a-800"], ["a-2", "a-100", "a-101", "a-5000"]), ["a-100", "a-2", "a-800", "a-900"])
+        self.assertEqual(choose_names_to_note(["a", "a-2"], [], [], ["a-2", "a-3", "a-101", "a-102", "b-3"]), ["a-101", "a-3"])
+        self.assertEqual(choose_names_to_note(["a"], ["a-5"], ["a-5"], ["a-5", "a-2"]), ["a-2", "a-5"])
+        self.assertEqual(choose_names_to_note(["a"], [], [], []), [])
+
+    def test_made_up_ones_fill_no_file(self) -> None:
+        heard = [f"a-{number}" for number in range(2, 100_000)]
+        self.assertEqual(len(choose_names_to_note(["a"], [], [], heard)), 99)
 
     def test_none_that_was_noted_is_forgotten(self) -> None:
         noted = [f"a-{number}" for number in range(2, 9)]
-        self.assertEqual(choose_names_to_note(noted, [], ["a-1000"], 3), sorted(noted))
+        self.assertEqual(choose_names_to_note(["a"], noted, [], ["a-1000"]), sorted(noted))
 
 
 class Made(unittest.TestCase):

@@ -10,6 +10,7 @@ from weft.deciding.gone import (
     has_lost_most,
     is_left_out,
     is_left_over,
+    is_of_store,
     judge_missing,
     list_folders_above,
     may_log,
@@ -125,6 +126,23 @@ class LeftOver(unittest.TestCase):
         for name in (b".shop.evil.new", b".shop.deed.0123456789abcdef.new", b".shop.lines.0123456789abcde.new", b".shop.lines.0123456789ABCDEF.new",
                      b"shop.lines.0123456789abcdef.new", b".shop.lines.0123456789abcdef.new2", b".shop.lines.new", b"shop.lines", b"\xff"):  # fmt: skip
             self.assertFalse(is_left_over(name, self.OWN), name)
+
+
+class OfStore(unittest.TestCase):
+    """What stands in the folder of a log's store."""
+
+    def test_its_file_its_parts_and_what_is_left_of_them_are_its_own(self) -> None:
+        for name in (b"timeline.tw", b".timeline.tw.0123456789abcdef.new", b"part-2", b"part-12", b"part-2.lines", b".part-2.seal.0123456789abcdef.new"):
+            self.assertTrue(is_of_store(name, (".lines", ".seal"), True), name)
+
+    def test_all_else_was_put_there(self) -> None:
+        for name in (b"secret", b"timeline.tw.bak", b".timeline.tw.new", b"part-", b"part-0", b"part-x", b"part-2.txt", b"part-2.lines.x", b"xpart-2", b"\xff"):
+            self.assertFalse(is_of_store(name, (".lines", ".seal"), True), name)
+
+    def test_in_a_further_part_no_other_one_lies(self) -> None:
+        self.assertTrue(is_of_store(b"timeline.tw", (".lines",), False))
+        self.assertFalse(is_of_store(b"part-3", (".lines",), False))
+        self.assertFalse(is_of_store(b"part-3.lines", (".lines",), False))
 
 
 class Still(unittest.TestCase):

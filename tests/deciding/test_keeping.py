@@ -3,7 +3,7 @@
 import unittest
 
 from weft.deciding.keeping import (
-    Counting, Mark, Outcome, Placement, Standing, choose_line, find_standing_choice, list_counting, may_be_mistyped, place_line, read_mark, standing_of,
+    Counting, Mark, Outcome, Placement, Standing, choose_line, find_standing_choice, list_counting, may_be_mistyped, may_be_sent, place_line, read_mark, standing_of,
     was_passed_over,
 )  # fmt: skip
 from weft.deciding.lines import LAST_STEP, Kept, Line
@@ -61,6 +61,9 @@ class Files(unittest.TestCase):
         self.assertTrue(may_be_mistyped(True, False))
         for is_named, is_there in ((True, True), (False, True), (False, False)):
             self.assertFalse(may_be_mistyped(is_named, is_there))
+
+    def test_one_that_is_named_from_the_current_folder_on_may_have_been_sent(self) -> None:
+        self.assertEqual([may_be_sent(named) for named in ("signers", "./signers", "~/signers", "/home/a/signers", "")], [True, True, True, False, False])
 
 
 class CountingLines(unittest.TestCase):

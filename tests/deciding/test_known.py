@@ -15,6 +15,7 @@ from weft.deciding.known import (
     Known,
     Lost,
     is_full_due,
+    is_other_folder,
     last_of_each,
     lay_over,
     mark_of,
@@ -26,6 +27,7 @@ from weft.deciding.known import (
     read_head,
     rest_length,
     shared_length,
+    sign_of,
     unpack_record,
     weigh_change,
 )
@@ -38,6 +40,22 @@ HEAD = Head(1_700_000_000, 2, 345, "ab" * 32, False, False)
 def known(path: bytes, digest: bytes = ONE, mark: bytes = b"m" * 16, lost: Lost = Lost.NO) -> Known:
     """A record."""
     return Known(path, digest, mark, lost)
+
+
+class Folder(unittest.TestCase):
+    """Of which folder a log is."""
+
+    def test_another_one_is_known_where_one_was_noted(self) -> None:
+        one, other = sign_of(b"/srv/data"), sign_of(b"/srv/other")
+        self.assertTrue(is_other_folder(HEAD._replace(folder=one), other))
+        for before in (HEAD._replace(folder=other), HEAD, None):
+            self.assertFalse(is_other_folder(before, other))
+
+    def test_it_stands_in_the_head(self) -> None:
+        head = HEAD._replace(folder=sign_of(b"/srv/data"))
+        self.assertEqual((len(head.data), read_head(head.data)), (HEAD_SIZE, head))
+        most = Head(10**15 - 1, 10**9 - 1, 10**15 - 1, "ab" * 32, True, True, "c" * 16)
+        self.assertEqual((len(most.data), read_head(most.data)), (HEAD_SIZE, most))
 
 
 class Skipping(unittest.TestCase):

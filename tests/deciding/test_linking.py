@@ -3,7 +3,8 @@
 import unittest
 
 from weft.deciding.linking import (
-    MOST_TRIED, Meaning, Open, Pair, choose_base, count_night, is_evidence, list_loose, may_ask, must_tell, read_link_files, read_open, weigh_answer,
+    MOST_TRIED, Meaning, Open, Pair, choose_base, count_night, is_evidence, list_loose, list_unheld, may_ask, must_tell, pair_of, read_link_files, read_open,
+    weigh_all, weigh_answer,
 )  # fmt: skip
 from weft.deciding.lines import Line
 
@@ -114,6 +115,25 @@ class Nights(unittest.TestCase):
         for _ in range(9):
             found = count_night(found, True, 0)
         self.assertFalse(must_tell(found, 0))
+
+
+class Held(unittest.TestCase):
+    """Lines that a user keeps of a peer's next part."""
+
+    def test_those_of_whose_steps_what_came_shows_nothing_are_held_by_a_link(self) -> None:
+        self.assertEqual(list_unheld([SIX, SEVEN], [line(6, "b")]), [SEVEN])
+        self.assertEqual(list_unheld([line(0), SIX], []), [SIX])
+        self.assertEqual(list_unheld([SIX], [line(6, service="bank")]), [SIX])
+
+    def test_a_pair_has_the_earlier_line_first(self) -> None:
+        self.assertEqual(pair_of(SEVEN, SIX), Pair(SIX, SEVEN))
+        self.assertEqual(pair_of(SIX, SEVEN), Pair(SIX, SEVEN))
+
+    def test_all_have_to_join_and_one_that_parts_is_enough(self) -> None:
+        self.assertIs(weigh_all([]), Meaning.JOINS)
+        self.assertIs(weigh_all([Meaning.JOINS, Meaning.JOINS]), Meaning.JOINS)
+        self.assertIs(weigh_all([Meaning.JOINS, Meaning.NOTHING]), Meaning.NOTHING)
+        self.assertIs(weigh_all([Meaning.NOTHING, Meaning.PARTS, Meaning.JOINS]), Meaning.PARTS)
 
 
 class Kept(unittest.TestCase):

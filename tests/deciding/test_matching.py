@@ -2,7 +2,7 @@
 
 import unittest
 
-from weft.deciding.matching import Logged, Match, Matched, match_file, read_logged
+from weft.deciding.matching import Logged, Match, Matched, digests_of, match_file, read_logged, whole_digest
 
 ONE, OTHER = "1" * 64, "2" * 64
 SOLD, PAID = Logged(ONE, b"sold"), Logged(OTHER, b"paid")
@@ -25,6 +25,15 @@ class Read(unittest.TestCase):
     def test_other_events_are_no_entries(self) -> None:
         for event in (b"", b"gone  ./sold", ONE[1:].encode() + b"  ./sold", ONE.encode() + b" ./sold", b"x" * 64 + b"  ./sold", b"\\\\" + ONE.encode() + b"  a"):
             self.assertIsNone(read_logged(event), event)
+
+
+class DigestsOf(unittest.TestCase):
+    """What an event stands for."""
+
+    def test_an_event_stands_for_itself_and_for_the_file_of_which_it_tells_the_digest(self) -> None:
+        self.assertEqual(digests_of(b"word"), (whole_digest(b"word"),))
+        for event in (ONE.encode() + b"  -", ONE.encode() + b"  ./sold"):
+            self.assertEqual(digests_of(event), (whole_digest(event), ONE))
 
 
 class MatchFile(unittest.TestCase):
@@ -50,6 +59,26 @@ class MatchFile(unittest.TestCase):
     def test_events_that_are_no_entries(self) -> None:
         self.assertEqual(match_file([None, None], ONE, b"sold"), Matched(Match.NO_ENTRY, []))
         self.assertEqual(match_file([None], ONE, b"sold"), Matched(Match.NO_ENTRY, []))
+
+    def test_a_file_that_was_recorded_as_it_is(self) -> None:
+        self.assertEqual(match_file([None], ONE, b"sold", [ONE]), Matched(Match.SAME, [0]))
+        self.assertEqual(match_file([None, PAID], ONE, b"sold", [ONE, OTHER]), Matched(Match.SAME, [0]))
+        self.assertEqual(match_file([None], ONE, b"sold", [OTHER]), Matched(Match.NO_ENTRY, []))
+        self.assertEqual(match_file([SOLD, None], ONE, b"sold", [OTHER, ONE]), Matched(Match.SAME, [0, 1]))
+
+    def test_a_file_that_has_the_bytes_of_an_entry_isnt_the_file_of_that_entry(self) -> None:
+        self.assertEqual(match_file([SOLD], OTHER, b"sold", [OTHER]), Matched(Match.OTHER, []))
+
+    def test_a_file_that_is_called_as_an_unnamed_one_has_that_name(self) -> None:
+        self.assertEqual(read_logged(ONE.encode() + b"  ./-"), Logged(ONE, b"-"))
+        self.assertEqual(match_file([Logged(ONE, b"-")], ONE, b"sold"), Matched(Match.RENAMED, [0]))
+
+    def test_a_digest_without_a_name_is_that_of_a_file_of_any_name(self) -> None:
+        self.assertEqual(match_file([read_logged(ONE.encode() + b"  -")], ONE, b"sold"), Matched(Match.SAME, [0]))
+        self.assertEqual(match_file([read_logged(ONE.encode() + b"  -")], OTHER, b"sold"), Matched(Match.OTHER, []))
+
+    def test_the_digest_of_an_event(self) -> None:
+        self.assertEqual(whole_digest(b""), "e3b0c44298fc1c149afbf4c8996fb92427ae41e4649b934ca495991b7852b855")
 
 
 if __name__ == "__main__":

@@ -94,6 +94,12 @@ def hold_history(authenticators: Sequence[str], kept: Iterable[Line]) -> HeldHis
     return HeldHistory(differing, agreeing, binding[-1] if binding else None, beyond)
 
 
+def list_received(threads: Sequence[Optional[Line]], upto: int) -> list[Line]:
+    """A history shows the lines that its steps, from step 1 on, received up to the step that a kept line binds, each once: what stands behind that is its file's word alone.
+    Lines of step 0 follow from a name, and say nothing."""
+    return list(dict.fromkeys(line for line in threads[:upto] if line is not None and line.step))
+
+
 def measure_extent(held: HeldHistory, wanted: int) -> Extent:
     """A history that one kept line contradicts isn't shown, however many others agree. Else it is shown up to the step `wanted` where a
     line of that or of a later step binds it, and in part where one of an earlier step, from 1 on, does."""
@@ -130,6 +136,14 @@ def choose_whom_to_ask(keeper: str, recorders: Iterable[str], known: Collection[
 def choose_unknown(keeper: str, recorders: Iterable[str], known: Collection[str]) -> list[str]:
     """The others that a file names so, three at most: nobody is sent to them."""
     return [name for name in dict.fromkeys(recorders) if name != keeper and name not in known][:MOST_ASKED]
+
+
+def choose_holders(needed: Needed, received: Iterable[tuple[str, int, str]], known: Collection[str]) -> list[str]:
+    """Who may have a missing line, or a later one that does as well: of the services that are known otherwise those that received one of that step or of a later one of
+    its keeper, three at most, those of the earliest first; never the keeper. `received` has of each line that receipts tell of its service, its step and its
+    receiver: anybody can make a receipt, so nobody is sent to a service that it names alone."""
+    found = sorted((step, by) for service, step, by in received if service == needed.service and step >= needed.step)
+    return choose_whom_to_ask(needed.service, (by for _, by in found), known)
 
 
 def choose_older_step(steps: Iterable[int], proved: int, needed: int) -> Optional[int]:

@@ -96,9 +96,58 @@ def read_told(text: str) -> Optional[Told]:
     )  # fmt: skip
 
 
-def may_count(line: Line, told: Optional[Told], broken: Collection[str]) -> bool:
-    """What a service that broke a rule received, it may have made up: so a file of it shows no other service's line. Its own lines count."""
-    return told is None or told.service not in broken or line.service == told.service
+def may_count(line: Line, of: Optional[str], broken: Collection[str]) -> bool:
+    """What a service that broke a rule received, it may have made up: so a file of it, as `of` names the service of one on what a service received, and of a history, shows no
+    other service's line. Its own lines count."""
+    return of is None or of not in broken or line.service == of
+
+
+class Whole(NamedTuple):
+    """A whole history: its service, the authenticators of its steps from 0 on, and the lines that it received."""
+
+    service: str
+    authenticators: Sequence[str]
+    received: Sequence[Line]
+
+
+def find_histories_apart(histories: Sequence[Whole]) -> list[Differing]:
+    """Of one step of a service there is one line: histories of which one received another line than a second one has there, or received, are named, by their places."""
+    told = [(place, line) for place, it in enumerate(histories) for line in it.received if line.step]
+    steps = {(line.service, line.step): None for _, line in told}
+    own = [
+        (place, Line(service, step, it.authenticators[step]))
+        for place, it in enumerate(histories) for service, step in steps if service == it.service and step < len(it.authenticators)
+    ]  # fmt: skip
+    return find_two_lines([*told, *own])
+
+
+class Hop(NamedTuple):
+    """That a service received a line, as a chain or evidence tells it: who, the line, whether another line binds it, and what that service's archive tells beside it."""
+
+    by: str
+    line: Line
+    is_bound: bool
+    beside: list[Line]
+
+
+class Doubted(NamedTuple):
+    """The lines that a file tells by the word of services that broke a rule; and whether what lies behind the last hop rests on such a word too."""
+
+    lines: list[Line]
+    is_end: bool
+
+
+def find_doubted(hops: Sequence[Hop], broken: Collection[str]) -> Doubted:
+    """What a service that broke a rule received, it may have made up: so the hops of a chain, from the later event on, show nothing of others by its word, nor by that of a
+    service whose step it carries, until a line binds the step of a next one."""
+    found: list[Line] = []
+    is_carried = False
+    for hop in hops:
+        is_doubted = is_carried or hop.by in broken
+        if is_doubted:
+            found += [*hop.beside, *([] if hop.is_bound else [hop.line])]
+        is_carried = is_doubted and not hop.is_bound
+    return Doubted(found, is_carried)
 
 
 def pair_of(one: int, other: int) -> Pair:

@@ -86,9 +86,13 @@ def find_later_part(names: Sequence[str], kept: Iterable[Line], others: Collecti
     """Of the lines that a log's user keeps the first one that tells of a part behind the last one of these: a further part can have its name, of a later number
     that isn't far ahead, and nobody else is known to have it (names of others are passed over). So an old store isn't gone on with that ended since, and the log
     of another year is none. The line of step 0 follows from the name, and says nothing."""
+    return next((line for line in kept if line.step > 0 and is_name_of_later(names, line.service, others)), None)
+
+
+def is_name_of_later(names: Sequence[str], name: str, others: Collection[str]) -> bool:
+    """Whether a part behind the last one of these can have a name, and nobody else is known to have it."""
     last = number_of_part(names[0], names[-1])
-    ahead = range(last + 1, last + 1 + MOST_AHEAD + len(others))
-    return next((line for line in kept if line.step > 0 and line.service not in others and number_of_part(names[0], line.service) in ahead), None)
+    return name not in others and number_of_part(names[0], name) in range(last + 1, last + 1 + MOST_AHEAD + len(others))
 
 
 def number_of_part(first: str, name: str) -> int:
@@ -98,11 +102,10 @@ def number_of_part(first: str, name: str) -> int:
     return int(name[name.rfind("-") + 1 :]) if is_name_of_part(first, name) else 0
 
 
-def choose_names_to_note(noted: Collection[str], peers: Collection[str], heard: Collection[str], most: int) -> list[str]:
-    """Names of others are noted for good: those of a box's own peers each, and of such as were only heard, which anybody can make up, no more than so many in
-    all."""
-    kept = sorted({*noted, *peers})
-    return sorted([*kept, *sorted({*heard} - {*kept})[: max(0, most - len(kept))]])
+def choose_names_to_note(names: Sequence[str], noted: Collection[str], peers: Collection[str], heard: Collection[str]) -> list[str]:
+    """Names of others are noted for good: those of a box's own peers each, and of such as were only heard, which anybody can make up, those that one of the next
+    parts behind the last of these could get."""
+    return sorted({*noted, *peers, *(name for name in heard if is_name_of_later(names, name, ()))})
 
 
 def next_name(first: str, number: int, taken: Collection[str]) -> str:
@@ -139,6 +142,12 @@ def weigh_name(named: Optional[str], first: str, taken: Collection[str]) -> Opti
     if not is_name_of_part(first, named):
         return Fault.FOREIGN
     return Fault.TAKEN if named in taken else None
+
+
+def end_counts(is_signed_now: bool, noted: Collection[str], by_itself: str) -> bool:
+    """A part of a peer has ended, as its line said, while a key signed that line which is noted of it now, or where a person noted a key of the part in which it goes
+    on, by these fingerprints one that wasn't noted by itself: so no end outlives its key."""
+    return is_signed_now or any(key != by_itself for key in noted)
 
 
 def is_behind_end(end: Line, line: Line) -> bool:

@@ -14,6 +14,8 @@ GONE = b"gone"
 TICK = 20_000_000
 LEFT_OVER = re.compile(r"\.(.+)\.[0-9a-f]{16}\.new", re.DOTALL)
 MOST_FRONT = 60
+STORE = "timeline.tw"
+PART = re.compile(r"part-[1-9][0-9]{0,5}(|\..*)", re.DOTALL)
 
 
 class Kind(Enum):
@@ -88,6 +90,16 @@ def is_left_over(name: bytes, own: Collection[bytes]) -> bool:
     and `.new`. Whatever else begins and ends so is a file as others are."""
     found = LEFT_OVER.fullmatch(name.decode("utf-8", "surrogateescape"))
     return found is not None and any(found[1] == it.decode("utf-8", "surrogateescape")[:MOST_FRONT] for it in own)
+
+
+def is_of_store(name: bytes, own_ends: Collection[str], is_first: bool) -> bool:
+    """In the folder of a log's store stand its file, in that of the first part the others with what stands beside them, and what a run that was killed left of these. All
+    else somebody put there, and it is told that it isn't logged."""
+    text = name.decode("utf-8", "surrogateescape")
+    found = LEFT_OVER.fullmatch(text)
+    stem = found[1] if found is not None else text
+    part = PART.fullmatch(stem)
+    return stem == STORE or (is_first and part is not None and part[1] in ("", *own_ends))
 
 
 def was_still(before: Optional[State], behind: Optional[State], began: int) -> bool:

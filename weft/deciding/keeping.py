@@ -59,6 +59,11 @@ def may_be_mistyped(is_named: bool, is_there: bool) -> bool:
     return is_named and not is_there
 
 
+def may_be_sent(named: str) -> bool:
+    """A file, or a user's folder, that a variable names from the current folder on, may be one of those that somebody sent: it never counts untold."""
+    return named != "" and not named.startswith("/")
+
+
 # ---- which line counts
 
 
@@ -102,10 +107,10 @@ class Counting(NamedTuple):
     marks: list[Mark]
 
 
-def list_counting(kept: Sequence[Kept], marks: Sequence[Mark], fingerprints: Collection[str]) -> Counting:
-    """Of the lines of a step, and what is told of them, what counts while these keys are noted: no line that came by the signature of another key alone, and
-    no mark of a contradiction with such lines alone. A choice stays: a person made it."""
-    left = [it for it in kept if may_rest_on(it.how, fingerprints)]
+def list_counting(kept: Sequence[Kept], marks: Sequence[Mark], fingerprints: Collection[str], late: Collection[Kept] = ()) -> Counting:
+    """Of the lines of a step, and what is told of them, what counts while these keys are noted: no line that came by the signature of another key alone, or when its key
+    didn't count, and no mark of a contradiction with such lines alone. A choice stays: a person made it."""
+    left = [it for it in kept if may_rest_on(it.how, fingerprints) and it not in late]
     gone = {it.line.authenticator for it in kept} - {it.line.authenticator for it in left}
     return Counting(left, [it for it in marks if it.is_choice or len({*it.authenticators} - gone) > 1])
 

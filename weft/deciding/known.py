@@ -20,7 +20,7 @@ DAY = 86_400
 AT_REST = 60 * 10**9
 NO_MARK = bytes(16)
 HEAD_SIZE = 160
-HEAD = re.compile(r"TWK1 ([0-9]{1,15}) ([0-9]{1,9}) ([0-9]{1,15}) ([0-9a-f]{64}) ([01]) ([01]) *\n")
+HEAD = re.compile(r"TWK1 ([0-9]{1,15}) ([0-9]{1,9}) ([0-9]{1,15}) ([0-9a-f]{64}) ([01]) ([01])(?: ([0-9a-f]{16}))? *\n")
 RECORD = struct.Struct(">HHB32s16s")
 NUMBERS = struct.Struct(">5Q")
 WHOLE = 2**64
@@ -45,7 +45,8 @@ class Known(NamedTuple):
 
 class Head(NamedTuple):
     """What stands before the records: when all files were last read, in seconds since 1970; how many parts of the log they cover, and how many bytes of the
-    last one's entries, with the digest of what stands at their end; and whether the lost files were logged as gone, of each kind."""
+    last one's entries, with the digest of what stands at their end; whether the lost files were logged as gone, of each kind; and the sign of the folder that was logged,
+    where it is known."""
 
     full: int
     parts: int
@@ -53,11 +54,12 @@ class Head(NamedTuple):
     tail: str
     drops_gone: bool
     drops_replaced: bool
+    folder: str = ""
 
     @property
     def data(self) -> bytes:
         """As it is kept."""
-        text = f"TWK1 {self.full} {self.parts} {self.entries} {self.tail} {int(self.drops_gone)} {int(self.drops_replaced)}"
+        text = f"TWK1 {self.full} {self.parts} {self.entries} {self.tail} {int(self.drops_gone)} {int(self.drops_replaced)} {self.folder}"
         return text.ljust(HEAD_SIZE - 1).encode() + b"\n"
 
     def drops(self, record: Known) -> bool:
@@ -68,7 +70,17 @@ class Head(NamedTuple):
 def read_head(data: bytes) -> Optional[Head]:
     """A head is read where it is whole; else nothing is known, and all files are read."""
     found = HEAD.fullmatch(data.decode("ascii", "replace")) if len(data) == HEAD_SIZE else None
-    return Head(int(found[1]), int(found[2]), int(found[3]), found[4], found[5] == "1", found[6] == "1") if found else None
+    return Head(int(found[1]), int(found[2]), int(found[3]), found[4], found[5] == "1", found[6] == "1", found[7] or "") if found else None
+
+
+def sign_of(folder: bytes) -> str:
+    """By what a folder, named from the root on, is known again."""
+    return hashlib.sha256(folder).hexdigest()[:16]
+
+
+def is_other_folder(before: Optional[Head], folder: str) -> bool:
+    """A log was of another folder before where that is known: what its files are now tells nothing of what became of those."""
+    return before is not None and before.folder not in ("", folder)
 
 
 def order_of(path: bytes) -> bytes:
@@ -81,11 +93,15 @@ def mark_of(state: State) -> bytes:
     return hashlib.sha256(NUMBERS.pack(*(number % WHOLE for number in state))).digest()[:16]
 
 
+def is_at_rest(state: State, now: int) -> bool:
+    """A file is at rest at a moment, in nanoseconds since 1970, where it was changed a minute before at least: not at a time that lies ahead, as by a clock that was
+    set back or by another machine's. What is written through a mapping sooner may leave its times as they are."""
+    return now - state.changed >= AT_REST
+
+
 def mark_read(state: State, now: int) -> bytes:
-    """The mark of a file that was read at a moment, in nanoseconds since 1970: none where it was changed less than a minute before, or at a time that lies ahead,
-    as by a clock that was set back or by another machine's: so it is read once more by the next run. What is written through a mapping meanwhile may leave its
-    times as they are."""
-    return mark_of(state) if now - state.changed >= AT_REST else NO_MARK
+    """The mark of a file that was read at a moment: none where it isn't at rest: so it is read once more by the next run."""
+    return mark_of(state) if is_at_rest(state, now) else NO_MARK
 
 
 def may_skip(known: Optional[Known], state: State, is_full: bool) -> bool:

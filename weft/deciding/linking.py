@@ -48,7 +48,7 @@ class Open(NamedTuple):
     @property
     def pair(self) -> Pair:
         """Both, the earlier one first."""
-        return Pair(*sorted((self.loose, self.joined), key=lambda line: line.step))
+        return pair_of(self.loose, self.joined)
 
     @property
     def text(self) -> str:
@@ -81,6 +81,24 @@ def weigh_answer(pair: Pair, given: Optional[Line]) -> Meaning:
     if given is None or (given.service, given.step) != (pair.earlier.service, pair.earlier.step):
         return Meaning.NOTHING
     return Meaning.JOINS if given == pair.earlier else Meaning.PARTS
+
+
+def pair_of(one: Line, other: Line) -> Pair:
+    """Two lines of different steps, the earlier one first."""
+    return Pair(*sorted((one, other), key=lambda line: line.step))
+
+
+def list_unheld(kept: Iterable[Line], shown: Iterable[Line]) -> list[Line]:
+    """Of the lines that a user keeps of a service those of whose steps what came shows nothing: whether these are of its history only a link can show. Step 0 follows
+    from the name."""
+    steps = {(line.service, line.step) for line in shown}
+    return [line for line in kept if line.step > 0 and (line.service, line.step) not in steps]
+
+
+def weigh_all(meanings: Iterable[Meaning]) -> Meaning:
+    """A line is of one history with several others where it is so with each; one from which it parts is enough for that it isn't."""
+    found = {*meanings}
+    return Meaning.PARTS if Meaning.PARTS in found else Meaning.NOTHING if Meaning.NOTHING in found else Meaning.JOINS
 
 
 def is_evidence(meaning: Meaning, are_good: Iterable[bool]) -> bool:

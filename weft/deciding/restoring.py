@@ -22,9 +22,9 @@ How these functions, `weft.own`, `weft log` and `weft exchange` go together:
 4. `Go.OLD`: the turn ends with 17 and the sentence of `own.old_store`; nothing is put out. `Go.WAIT`: it takes no message, makes no step,
    signs nothing and puts nothing out, tells for whom it waits, and ends with 10. `Go.ON`: the look is at its end (`end_look`), and the
    turn is made.
-5. Before all of that `weft log` and `weft exchange` ask `OwnLines.check`, which makes no step where the store has steps and no lines
-   beside it (17), until `--adopt-store LINE` (`own.add_adopt`, `own.named_line`, `OwnLines.adopt`, which goes before `check`) names its
-   last line. That ends a look too.
+5. Before all of that each word asks `weft.standing` what is known against the store, and goes by the table of `weft.deciding.standing`. What
+   only a person can end there, as that no lines stand beside it, `--adopt-store LINE` ends, which names its last line (`own.add_adopt`,
+   `own.named_line`, `OwnLines.adopt`). That ends a look too.
 
 6. `SERVICE.seal` names the very file that it is (its number on its device, and that number's generation, or where the file system tells
    none when it was made), and the line that was noted last. A copy is another file: so a store that was put back with all that stood
@@ -43,6 +43,8 @@ from typing import Iterable, Mapping, NamedTuple, Optional, Sequence
 from weft.deciding.lines import Line, read_line
 
 NO_NOTE = "none"
+# What a seal says where it is to be that of no file: what it stands beside is a copy, wherever it comes.
+NO_FILE = "0.0"
 OPEN_BOX = re.compile(r"open ([0-9]{1,15}) (.*)")
 IDENTITY = re.compile(r"([0-9]{1,20}\.[0-9]{1,10})(?:\.([0-9]{1,12}))?")
 # So many seconds after it was made a seal may have been changed for the last time, where its file system tells no generation.

@@ -13,7 +13,7 @@ SIZE, DIGEST, STATUS = re.compile(r"[0-9]{1,12}"), re.compile(r"[0-9a-f]{64}"), 
 NO_DIGEST = "-"
 KIND, REGULAR, WRITABLE_BY_OTHERS = 0o170000, 0o100000, 0o022
 FORMULA, QUOTE = ("=", "+", "-", "@"), "\\x22"
-HEAD = "file\tbytes\tsha256\tverdict\tstatus\treason\tlines\ttold\tarchive"
+HEAD = "file\tbytes\tsha256\tverdict\tstatus\treason\tlines\ttold\tarchive\tday"
 
 
 def read_as_table(text: str, front: str) -> str:
@@ -24,8 +24,8 @@ def read_as_table(text: str, front: str) -> str:
 
 class Row(NamedTuple):
     """A row of a table: the path within the folder, how many bytes were read and their SHA-256 digest (- where none could be read), the
-    verdict, the status of this file by itself, why, the lines that it rests on, and where it is shown all lines that it tells, and what it tells of an archive.
-    Its texts are printable, so none has a tab."""
+    verdict, the status of this file by itself, why, the lines that it rests on, and where it is shown all lines that it tells, what it tells of an archive, and by which
+    day its lines stood, as stamps say now: a row that is read again has none. Its texts are printable, so none has a tab."""
 
     file: str
     bytes: int
@@ -36,6 +36,7 @@ class Row(NamedTuple):
     lines: str
     told: str = ""
     archive: str = ""
+    day: str = ""
 
     @property
     def text(self) -> str:
@@ -67,12 +68,12 @@ def is_own_state(owner: int, mode: int, user: int) -> bool:
 
 
 def read_row(text: str) -> Optional[Row]:
-    """A row has nine fields, whose second and fifth are numbers and whose third is a digest; of another text, and of a row without
+    """A row has ten fields, whose second and fifth are numbers and whose third is a digest; of another text, and of a row without
     digest, the answer is None."""
     fields = text.split("\t")
-    if len(fields) != 9 or not SIZE.fullmatch(fields[1]) or not DIGEST.fullmatch(fields[2]) or not STATUS.fullmatch(fields[4]):
+    if len(fields) != 10 or not SIZE.fullmatch(fields[1]) or not DIGEST.fullmatch(fields[2]) or not STATUS.fullmatch(fields[4]):
         return None
-    return Row(fields[0], int(fields[1]), fields[2], fields[3], int(fields[4]), *fields[5:])
+    return Row(fields[0], int(fields[1]), fields[2], fields[3], int(fields[4]), *fields[5:9])
 
 
 def read_rows(text: str, title: str) -> dict[str, Row]:

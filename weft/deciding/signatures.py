@@ -18,6 +18,7 @@ NAMESPACE = "timeweave-line"
 BEGIN, END = b"-----BEGIN SSH SIGNATURE-----", b"-----END SSH SIGNATURE-----"
 ARMOUR = re.compile(BEGIN + rb"\n(?:[A-Za-z0-9+/=]{1,128}\n)+" + END + rb"\n")
 NAMESPACES = re.compile(rb'namespaces="([^"]*)"')
+VALID = re.compile(rb"valid-(after|before)=\"?([0-9]{8}(?:[0-9]{4}(?:[0-9]{2})?)?)(z?)(?![0-9])")
 SIGNED_BY = re.compile(r"signed by \S+ (SHA256:[A-Za-z0-9+/]{43})(?![A-Za-z0-9+/])")
 GOOD_BY = re.compile(rb"with (\S+) key (SHA256:\S+)")
 NOT_VERIFIED, NOT_GOOD = 255, b"Could not verify signature."
@@ -132,6 +133,11 @@ class PublicKey(NamedTuple):
         return f'{service} namespaces="{NAMESPACE}" {self.text}\n'.encode()
 
 
+def is_private_key(head: bytes) -> bool:
+    """A file that begins as ssh and openssl write private keys is one."""
+    return head.startswith(b"-----BEGIN ") and b"PRIVATE KEY-----" in head
+
+
 def read_public_key(data: bytes) -> Union[PublicKey, KeyFault]:
     """A public key is exactly one line `type key [comment]` of a known type, which the key itself has too; of other bytes the answer is why not."""
     lines = data.removesuffix(b"\n").removesuffix(b"\r").replace(b"\r", b"\n").split(b"\n")
@@ -170,14 +176,55 @@ class Addition(Enum):
     LIMITED = "it is noted with options under which it may not count"
 
 
-def may_sign_lines(line: bytes) -> bool:
-    """A key in a file of signers counts for lines where its options name no authority and no time, and either no namespaces or that of lines as well."""
+def options_of(line: bytes) -> bytes:
+    """The options of a line of a file of signers, in small letters."""
     words = line.split()
     kind = next((place for place, word in enumerate(words) if word in KEY_KINDS), len(words))
-    options = b" ".join(words[1:kind]).lower()
-    named = NAMESPACES.search(options)
-    is_limited = b"cert-authority" in options or b"valid-" in options
-    return not is_limited and (named is None or NAMESPACE.encode() in named[1].split(b","))
+    return b" ".join(words[1:kind]).lower()
+
+
+def has_days(line: bytes) -> bool:
+    """Whether a line of a file of signers says from when or until when its key counts; ssh-keygen holds a signature against that."""
+    return b"valid-" in options_of(line)
+
+
+class Moment(NamedTuple):
+    """A moment, in fourteen digits from the year to the second: in UTC, and in local time."""
+
+    utc: str
+    local: str
+
+
+def counts_at(line: bytes, moment: Optional[Moment]) -> bool:
+    """The key of a line of a file of signers counts at a moment that is neither before the one from which nor behind that until which its options let it count; what
+    they say without a Z is local time. Where no moment is known, one with days counts for nothing."""
+    for which, digits, zone in VALID.findall(options_of(line)):
+        at = digits.decode().ljust(14, "0")
+        then = "" if moment is None else moment.utc if zone else moment.local
+        if not then or (then < at if which == b"after" else then > at):
+            return False
+    return True
+
+
+def may_sign_some(line: bytes) -> bool:
+    """A key in a file of signers may count for lines where its options name no authority, and either no namespaces or that of lines as well; on which days, its options
+    say too."""
+    named = NAMESPACES.search(options_of(line))
+    return b"cert-authority" not in options_of(line) and (named is None or NAMESPACE.encode() in named[1].split(b","))
+
+
+def may_sign_lines(line: bytes) -> bool:
+    """The same of a key that counts on all days."""
+    return may_sign_some(line) and not has_days(line)
+
+
+def key_of_signature(armour: bytes) -> Optional[PublicKey]:
+    """The public key that stands in a signature's armour, by which it may have been made: whether it is good isn't said by that. None where there is none."""
+    blob = decode_base64(b"".join(armour.split(b"\n")[1:-2])) or b""
+    size = int.from_bytes(blob[10:14], "big")
+    key = blob[14 : 14 + size]
+    kind = key[4 : 4 + int.from_bytes(key[:4], "big")]
+    return PublicKey(kind.decode(), key) if blob.startswith(b"SSHSIG\0\0\0\x01") and len(key) == size and kind in KEY_KINDS else None
 
 
 def place_key(key: PublicKey, noted: Iterable[bytes], is_beside: bool = False) -> Addition:
@@ -192,8 +239,8 @@ def place_key(key: PublicKey, noted: Iterable[bytes], is_beside: bool = False) -
 
 
 def read_noted_key(line: bytes) -> Optional[PublicKey]:
-    """The public key of a line of a file of signers, where it may sign lines; else None."""
-    return read_any_key(line) if may_sign_lines(line) else None
+    """The public key of a line of a file of signers, where it may sign lines, on whatever days; else None."""
+    return read_any_key(line) if may_sign_some(line) else None
 
 
 def read_any_key(line: bytes) -> Optional[PublicKey]:
@@ -204,6 +251,19 @@ def read_any_key(line: bytes) -> Optional[PublicKey]:
     return found if isinstance(found, PublicKey) else None
 
 
+def is_principal(listed: bytes, name: bytes) -> bool:
+    """A name is a principal of a list of patterns, as ssh-keygen reads it: where one of them matches, by `*` for any letters and `?` for one, and none does that stands
+    behind `!`."""
+    found = False
+    for pattern in listed.split(b","):
+        plain = re.escape(pattern.removeprefix(b"!")).replace(rb"\*", b".*").replace(rb"\?", b".")
+        if re.fullmatch(plain, name, re.DOTALL):
+            if pattern.startswith(b"!"):
+                return False
+            found = True
+    return found
+
+
 def may_count_for_part(key: str, by_itself: str, earlier: Collection[str]) -> bool:
     """A key that was noted of a further part by itself, since it was that of the part before, counts while it counts for that one too: who takes a stolen key out
     there has taken it out. One that a person noted counts by itself."""
@@ -211,8 +271,8 @@ def may_count_for_part(key: str, by_itself: str, earlier: Collection[str]) -> bo
 
 
 def find_signing_key(how: str) -> Optional[str]:
-    """The fingerprint of the key by whose signature a kept line came; None of one that came in another way."""
-    found = SIGNED_BY.match(how)
+    """The fingerprint of the key by whose signature a kept line came, with however many blanks somebody wrote that; None of one that came in another way."""
+    found = SIGNED_BY.match(" ".join(how.split()))
     return found[1] if found is not None else None
 
 

@@ -5,7 +5,9 @@ from __future__ import annotations
 import importlib
 from types import ModuleType
 
-WORDS = ("line", "keep", "tell", "judge", "log", "prove", "exchange", "accept", "chain", "check")
+WORDS = (
+    "line", "keep", "tell", "list", "judge", "log", "record", "find", "prove", "exchange", "fetch", "publish", "accept", "chain", "check", "backup", "restore", "status", "stamp", "bundle",
+)  # fmt: skip
 
 
 def module_of(word: str) -> ModuleType:

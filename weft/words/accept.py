@@ -19,6 +19,7 @@ from weft.output import collect, finish_quietly, say
 from weft.statuses import Status
 from weft.texts import name_of
 from weft.trouble import Trouble
+from weft.words import keep
 
 NAME = "accept"
 SUMMARY = "confirms a new peer of a box: its name, its line and its key"
@@ -28,7 +29,7 @@ DETAILS = (
     "the peer is noted, its line has to be signed by it too, unless the box takes unsigned messages. Further parts of a peer need no word; another key is noted "
     "of the last one."
 )
-STATUSES = (Status.LOOK, Status.CONTRADICTION, Status.MISSING, Status.BUSY)
+STATUSES = (Status.NOT_SHOWN, Status.LOOK, Status.CONTRADICTION, Status.MISSING, Status.BUSY)
 EXAMPLE = "weft accept /srv/box bank --key bank_key.pub\nweft accept /srv/box bank bank.line"
 AUTHENTICATOR = re.compile("[0-9a-fA-F]{64}")
 
@@ -40,6 +41,7 @@ def add(parser: argparse.ArgumentParser) -> None:
     parser.add_argument("line", metavar="LINE", nargs="?", help="a file with its line, which came by another way")
     parser.add_argument("--key", metavar="KEY.pub", help="its public key, which came by another way")
     signatures.add_beside(parser)
+    keep.add_introduced(parser)
     parser.add_argument(
         "--yes", metavar="HEX", help="the 64 digits of the line that was shown, and was compared already; another one that waits by now isn't accepted"
     )
@@ -55,11 +57,14 @@ def run(options: argparse.Namespace) -> Status:
         raise Trouble(Status.USAGE, "--yes takes the 64 hexadecimal digits of the line that was compared", "Run weft accept without it: it shows the line.")
     own = signatures.public_key(options.key) if options.key else None
     given = one_line(options.line, name) if options.line else None
+    if options.introduced:
+        return introduced(options, name)
     is_new = not files.is_there(options.box)
     files.make_folder(options.box)
     settings = boxes.read_settings(options.box)
     with locks.held(options.box / ".lock", 30, options.box):
         peer = boxes.find_peer(options.box, name, settings)
+        tell_name(options.box, name)
         if is_new:
             say(f"{name_of(options.box)} wasn't there: it is a new box now.")
         peer.make()
@@ -87,9 +92,25 @@ def run(options: argparse.Namespace) -> Status:
     return Status.DONE
 
 
+def introduced(options: argparse.Namespace, name: str) -> Status:
+    """Notes the key that a line of the peer introduces, which its noted key signed."""
+    if not options.line or options.key:
+        raise Trouble(Status.USAGE, "--introduced goes with the file of the line, and without --key", "weft accept BOX PEER LINE --introduced FILE")
+    files.expect_folder(options.box, "the box")
+    signers = signers_of(options.box)
+    with locks.held(options.box / ".lock", 30, options.box):
+        line, how = keep.signed_line(options.line, files.read(options.line, signatures.MOST_BYTES), signers, None)
+        if line.service != name:
+            raise Trouble(Status.UNREADABLE, f"{name_of(options.line)} has a line of {line.service}, and not of {name}", "Name its line.")
+        say(keep.introduce(signers, line, how.split()[-1], options.introduced))
+    return Status.DONE
+
+
 def tell_name(box: Path, name: str) -> None:
-    """Tells that a peer is called as a further part of the box's own service would be, which the next turn notes."""
+    """Tells that a peer is called as a further part of the box's own service would be, which the next turn notes; raises Trouble where it is called as that service."""
     own = (files.read_if_there(box / ".own", boxes.MOST_OWN) or b"").decode("ascii", "replace").strip()
+    if own == name:
+        raise Trouble(Status.USAGE, f"{name} is the service whose box {name_of(box)} is, and no peer of its own", "Name a peer.")
     if own and is_name_of_part(own, name):
         say(f"{name} is called as a further part of {own} would be: run weft exchange before weft log, so that no part takes that name.")
 

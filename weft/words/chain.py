@@ -9,16 +9,19 @@ from contextlib import ExitStack, contextmanager
 from pathlib import Path
 from typing import Iterator, Optional, Sequence
 
-from weft import chains, choosing, files, formats, judges, lines, locks, outcomes, pictures, reports, signatures
+from weft import chains, choosing, files, formats, judges, locks, outcomes, pictures, readers, reports, signatures
 from weft.chains import Event, Misfit, Part, Plan, Sources
 from weft.deciding.choosing import Headline
+from weft.deciding.standing import Command
 from weft.deciding.worst import worst_of
-from weft.lines import LAST_STEP
+from weft.judges import Bench
+from weft.lines import LAST_STEP, KeptLines
 from weft.outcomes import Named, Outcome
 from weft.output import collect, complain, say
-from weft.parts import whole
+from weft.parts import Part as PartOfLog
+from weft.standing import Standing
 from weft.statuses import Status
-from weft.texts import count_of, listed, name_of
+from weft.texts import count_of, listed, name_of, typed
 from weft.trouble import Trouble
 
 NAME = "chain"
@@ -29,8 +32,13 @@ DETAILS = (
     "judged strictly. Or it says which part is missing and whom to ask. Peers of your boxes are asked, and over them the services that they exchange with; of "
     "others it says the command, to be asked for by hand (--hand). An event is named NAME:STEP:INDEX, or by a file that has its proof."
 )
-STATUSES = (Status.NOT_SHOWN, Status.CONTRADICTION, Status.MISSING, Status.BUSY, Status.SHOWN_BY_REFERENCE, Status.NOT_SHOWN_BY_REFERENCE)
-EXAMPLE = "weft chain data:1:0 sent.proof --store /srv/log --store /srv/bank --box /srv/box --out chain"
+STATUSES = (
+    Status.NOT_SHOWN, Status.CONTRADICTION, Status.MISSING, Status.BUSY, Status.OLD_STORE, Status.SHOWN_BY_REFERENCE, Status.NOT_SHOWN_BY_REFERENCE,
+)  # fmt: skip
+EXAMPLE = (
+    "weft chain data:1:0 sent.proof --store /srv/log --store /srv/bank --box /srv/box --out chain\n"
+    "weft chain data:1:0 sent.proof --store /srv/log --store /srv/bank --for his.lines"
+)
 MOST_FILES = 10_000
 WAIT = 30
 
@@ -44,6 +52,7 @@ def add(parser: argparse.ArgumentParser) -> None:
     parser.add_argument("--hand", metavar="FILE", action="append", default=[], type=Path, help="receipts or proofs, a file or a folder; may be repeated")
     parser.add_argument("--kept", metavar="FILE", type=Path, action="append", help="a file of kept lines; may be repeated (else WEFT_KEPT, ..)")
     signatures.add_signers(parser)
+    readers.add_for(parser)
     parser.add_argument("--out", metavar="FILE", help="where the proof is written (else chain, where that is free)")
     parser.add_argument("--svg", metavar="OUT", help="draws it")
     parser.add_argument("--reference", action="store_true", help="judges by the Python reference alone, which is tested and not proved")
@@ -83,19 +92,34 @@ def read_below(path: Path) -> Optional[bytes]:
         return None
 
 
+def parts_of(folder: Path, judge: Bench) -> list[PartOfLog]:
+    """The parts of a service of one's own; raises Trouble where they aren't those of the lines that stand beside them."""
+    standing = Standing(folder, judge)
+    standing.expect(Command.CHAIN, "No chain was made")
+    return standing.made
+
+
 def run(options: argparse.Namespace) -> Status:
     """Makes the chain."""
     if options.json:
         collect()
     first, second = event_of(options.earlier), event_of(options.later)
-    kept, judge = signatures.counted(lines.kept_of(options.kept), options.signers), judges.bench(options.reference)
-    if options.kept:
-        say(choosing.told_kept(options.kept))
+    if options.reader and options.kept:
+        raise Trouble(Status.USAGE, "--for names the reader's lines, and --kept one's own", "Leave one of both out.")
+    kept, judge = readers.counted_for(options), judges.bench(options.reference)
+    for text in choosing.told_kept(options.kept):
+        say(text)
+    if options.reader:
+        say(readers.told_for(options))
     for text in choosing.uncounted_sentences(kept, kept.uncounted):
         say(text)
     hand = at_hand(options.hand) + [event.proof for event in (first, second) if event.proof is not None]
-    stores = [part.store for folder in options.store for part in whole(folder, judge)]
-    sources = Sources(stores, options.box, hand, kept, judge)
+    services = [(folder, parts_of(folder, judge)) for folder in options.store]
+    sources = Sources([part.store for _, of_one in services for part in of_one], options.box, hand, kept, judge, bool(options.reader))
+    if options.reader:
+        for folder, of_one in services:
+            readers.expect_same(folder, judge, of_one, kept)
+        second = for_reader(kept, second)
     try:
         plan, parts, proof = chains.gathered(sources, first, second)
     except Misfit as misfit:
@@ -114,9 +138,17 @@ def run(options: argparse.Namespace) -> Status:
     say(f"{name_of(out)}: {outcome.title}, {len(proof):,} bytes")
     for line in outcomes.sentences(judge, judgement, outcome):
         say(f"  {line}")
+    if options.reader:
+        say(f"He judges it by: weft judge {typed(out, 'PROOF')}")
     if options.svg:
         files.hand_out(options.svg, pictures.verdict(reports.read_report(judgement.verdict), judgement.lines, None).encode())
     return worst_of([outcome.status, kept.status])
+
+
+def for_reader(kept: KeptLines, second: Event) -> Event:
+    """The later event for a reader: a proof of it under a line that he doesn't hold is left aside, and one under a line of his is made or asked for."""
+    proof = formats.read_proof(second.proof) if second.proof is not None else None
+    return second._replace(proof=None) if proof is not None and not kept.at(proof.service, proof.top) else second
 
 
 def tell_missing(sources: Sources, plan: Plan, parts: list[bytes | None], further: list[Part]) -> Status:

@@ -4,18 +4,21 @@ from __future__ import annotations
 
 import argparse
 from pathlib import Path
-from typing import Iterator, NamedTuple, Optional, Sequence
+from typing import Iterator, NamedTuple, Optional
 
-from weft import checks, choosing, files, judges, lines, locks, pages, parts, recorded, signatures
+from weft import checks, files, judges, lines, locks, pages, parts, recorded, signatures
 from weft.checks import Bad, Exported, History, Result, Task
 from weft.deciding.checking import EntryState, Found, Looked, choose_places, find_differing, judge_check, judge_entries, list_unseen, may_make_entries
 from weft.deciding.restoring import Beside, Missing, find_missing
+from weft.deciding.standing import Against, Command
 from weft.deciding.worst import worst_of
 from weft.entries import Entries
 from weft.lines import Kept, KeptLines, Line
 from weft.output import complain, say, say_json
 from weft.own import OwnLines
 from weft.progress import with_progress
+from weft.recording import Records, look_at_records
+from weft.standing import Standing, whose
 from weft.statuses import Status
 from weft.stores import Store, step_0
 from weft.texts import beside, count_of, listed, name_of, steps_of
@@ -34,6 +37,8 @@ DETAILS = (
 STATUSES = (Status.LOOK, Status.BUSY, Status.OLD_STORE)
 EXAMPLE = "weft check /srv/log\nweft check /srv/log --all --kept ~/lines"
 SAMPLE = 200
+# What is looked for here more closely than other words do: at each kept line, and each entry.
+LOOKED_FOR = (Against.OTHER_PART, Against.DISPUTED, Against.OTHER_KEPT, Against.OTHER_LINE, Against.NO_ENTRIES)
 
 
 def add(parser: argparse.ArgumentParser) -> None:
@@ -56,19 +61,17 @@ def run(options: argparse.Namespace) -> Status:
     if options.workers is not None and options.workers < 1:
         raise Trouble(Status.USAGE, "--workers is 1 at least", "Leave it out for one a processor.")
     with locks.held(beside(folder, ".lock"), options.wait, folder):
-        found, handed_out = parts.parts_of(folder, judges.bench()), OwnLines(folder).read(OwnLines(folder).anchor)
         kept = signatures.counted(lines.kept_of(options.kept), options.signers)
-        for text in choosing.uncounted_sentences(kept, [part.last.service for part in found]):
+        standing = Standing(folder, judges.bench(), kept)
+        command, unmade = (Command.ENTRIES, "No entries were made") if options.entries else (Command.CHECK, "")
+        going = standing.weigh(command, unmade, LOOKED_FOR)
+        whole = [checked(options, standing, part.store, not going.ended) for part in standing.parts]
+        status = worst_of([going.status, *(it.status for it in whole)])
+        told = [*going.told, *(trouble.told() for trouble in going.ended)]
+        for text in told:
             complain(text)
-            kept.status = Status.LOOK
-        doubt = OwnLines(found[-1].folder).why_doubted(found[-1].store, found[-1].last)
-        whole = [checked(options, part.store, kept, handed_out, doubt if part is found[-1] else None) for part in found]
-        beside_them = missing_parts(folder, found, kept)
-        status = worst_of([*(it.status for it in whole), *(it.status for it in beside_them)])
-        for trouble in beside_them:
-            complain(trouble.told())
-        for it in whole if options.json else ():
-            say_json({**it.found, "told": [trouble.told() for trouble in beside_them], "status": int(status)})
+        for part, it in zip(standing.parts, whole) if options.json else ():
+            say_json({**it.found, "doubt": going.doubt if part is standing.last else None, "told": told, "status": int(status)})
         return status
 
 
@@ -77,17 +80,6 @@ class Checked(NamedTuple):
 
     found: dict[str, object]
     status: Status
-
-
-def missing_parts(folder: Path, found: Sequence[parts.Part], kept: KeptLines) -> list[Trouble]:
-    """What shows that a part of the log is missing; that a kept line tells of a later one asks for a look, since it may be another's."""
-    try:
-        parts.expect_none_missing(folder, judges.bench(), found)
-        missing = []
-    except Trouble as trouble:
-        missing = [trouble]
-    later = parts.later_part(folder, [part.last.service for part in found], kept)
-    return missing if later is None else [*missing, Trouble(Status.LOOK, later.sentence, later.advice)]
 
 
 class Outcome(NamedTuple):
@@ -106,33 +98,35 @@ class Outcome(NamedTuple):
         return Found(len({it.step for it in self.bad}), len(self.wrong), disputed)
 
 
-def checked(options: argparse.Namespace, store: Store, kept: KeptLines, handed_out: Sequence[Line], doubt: Optional[str]) -> Checked:
-    """Checks a part, and says what came of it, and why it may be an old one all the same; its lines beside it and those that the log handed out count too."""
-    top = store.last().line
-    for line in dict.fromkeys([*OwnLines(store.folder).all(), *(it for it in handed_out if it.service == top.service)]):
+def checked(options: argparse.Namespace, standing: Standing, store: Store, may_make: bool) -> Checked:
+    """Checks a part, and says what came of it; the lines beside it and those that the whole log handed out or noted count too. Its entries are made anew, where that
+    is wanted, only where they may be."""
+    top, kept = store.last().line, standing.kept
+    for line in dict.fromkeys([*OwnLines(store.folder).all(), *(line for line, _ in standing.lines_beside() if line.service == top.service)]):
         kept.add(Kept(line, "", ""))
     exported = checks.exported(store, top)
     outcome = looked_at(options, store, top, exported, *held_lines(store, kept, exported.history, top))
     if not options.json:
         tell(options, store, top, outcome)
-    disputed = [step for service, step in kept.disputes() if service == top.service]
+    disputed = [step for _, step in kept.disputes_of(top.service)]
     for step in disputed:
         complain(kept.contradiction(top.service, step).told())
     if disputed:
         complain(whose(store))
     status = judge_check(outcome.found(len(disputed)), outcome.looked)
-    entries = looked_at_entries(options, store, top, exported.history) if may_make_entries(status) else EntryState.UNSEEN
-    if doubt is not None:
-        complain(f"{doubt}: nothing here shows whether steps were made behind its last one. Compare that with what others hold of it.")
+    is_looked_at = may_make_entries(status) and (may_make or not options.entries)
+    entries = looked_at_entries(options, store, top, exported.history) if is_looked_at else EntryState.UNSEEN
     if outcome.untried is not None:
         complain(f"Not looked at: whether a next step follows. {outcome.untried.told()}")
-    is_open = doubt is not None or outcome.untried is not None
-    status = worst_of([status, judge_entries(entries), kept.status, Status.LOOK if is_open else Status.DONE])
-    return Checked({**as_json(top, outcome), "disputed": disputed, "entries": entries.value, "doubt": doubt}, status)
+    status = worst_of([status, judge_entries(entries), Status.DONE if outcome.untried is None else Status.LOOK])
+    return Checked({**as_json(top, outcome), "disputed": disputed, "entries": entries.value}, status)
 
 
 def looked_at_entries(options: argparse.Namespace, store: Store, top: Line, history: Optional[History]) -> EntryState:
     """Makes the entries of a log anew where that is wanted, or looks at them, and tells what is wrong."""
+    is_register = Records(store.folder).is_there
+    if options.entries and is_register:
+        raise Trouble(Status.USAGE, f"the service in {name_of(store.path)} is one of weft record, and entries are none of it", "Leave --entries out.")
     if options.entries:
         make_entries(store, top, history)
         return EntryState.MADE
@@ -140,6 +134,8 @@ def looked_at_entries(options: argparse.Namespace, store: Store, top: Line, hist
     if history is None and not options.all:
         return EntryState.UNSEEN
     steps = enumerate(history.events, 1) if history is not None else recorded.events_of(store, judges.bench(), top)
+    if is_register:
+        return look_at_records(store.folder, top, iter(steps))
     if not entries.is_there:
         return expect_entries(options, entries, top, any(recorded.is_of_log(events) for _, events in steps))
     if files.is_there(beside(store.folder, ".pending")):
@@ -165,20 +161,11 @@ def expect_entries(options: argparse.Namespace, entries: Entries, top: Line, is_
 
 def make_entries(store: Store, top: Line, history: Optional[History]) -> None:
     """Makes the entries of a log anew: of the history whose authenticators were computed anew, else of proofs."""
-    own, judge, entries = OwnLines(store.folder), judges.bench(), Entries(beside(store.folder, ".entries"))
-    own.check(store, judge, top)
+    judge, entries = judges.bench(), Entries(beside(store.folder, ".entries"))
     had = sum(1 for _ in entries.lines())
     steps = enumerate(history.events, 1) if history is not None else recorded.events_of(store, judge, top)
     count = recorded.make_entries(entries, steps)
     complain(f"{name_of(entries.path)} was made anew, of the store: {count_of(count, 'entry', 'entries')}; {had:,} stood there.")
-
-
-def whose(store: Store) -> str:
-    """What to do where one of two lines of a step is the store's."""
-    return (
-        f"One of them is that of {name_of(store.path)}. Append nothing until you know who made the other one: if it went out from here, this store was set back "
-        "and gone on with, and there are two histories: put back the one that has it, and tell those who hold lines. If somebody made it up, choose this store's."
-    )
 
 
 def looked_at(options: argparse.Namespace, store: Store, top: Line, exported: Exported, wrong: list[str], agreeing: int) -> Outcome:

@@ -7,16 +7,18 @@ import itertools
 from pathlib import Path
 from typing import Collection, Iterator, NamedTuple, Optional, Union
 
-from weft import bulk, choosing, files, formats, judges, lines, outcomes, pictures, reports, signatures
+from weft import bulk, bundles, choosing, dated, facts, files, formats, judges, lines, outcomes, reports, sheets, signatures, stamps
 from weft.choosing import Judgement
-from weft.deciding.choosing import Headline
+from weft.deciding.bundles import is_on_a_word
+from weft.deciding.choosing import Extent, Headline
 from weft.deciding.contradicting import Differing, Told, find_pairs, find_two_lines
-from weft.deciding.rows import digest_of
 from weft.deciding.worst import worst_of
 from weft.judges import Bench, Verdict
 from weft.kinds import ARCHIVE_KINDS
+from weft.facts import Facts, services_of
 from weft.lines import KeptLines, Line
-from weft.outcomes import Named, Outcome, map_name
+from weft.once import Once
+from weft.outcomes import Named, Outcome
 from weft.output import complain, say, say_json
 from weft.sentences import fill
 from weft.statuses import Status
@@ -29,7 +31,7 @@ DETAILS = (
     "It picks the lines that each needs, has it judged, and says what is shown, on whose lines that rests and how each came; or which lines are "
     "missing, and who may have kept them. First stands shown, shown in part (a line is carried, or kept lines bind a history up to an earlier "
     "step), not shown or not judged. A low and a high map file of one step are judged together. Proofs that carry a line aren't accepted but with --carried. A "
-    "history is judged by the rules that it has to keep, and held against every kept line of its service. What tells another line than a kept one of that step "
+    "history is judged by the rules that it has to keep, and its lines, those that it received too, are held against every kept one. What tells another line than a kept one of that step "
     "(TWO LINES), or contradicts itself, isn't shown. Accepted files that contradict each other on what a service received are told; name the "
     "link between their lines beside them. With --many all files of a folder are judged into a table."
 )
@@ -37,7 +39,7 @@ STATUSES = (
     Status.NOT_SHOWN, Status.LOOK, Status.CONTRADICTION, Status.MISSING, Status.BUSY, Status.FEWER, Status.SHOWN_BY_REFERENCE, Status.NOT_SHOWN_BY_REFERENCE,
 )  # fmt: skip
 EXAMPLE = (
-    "weft judge proof --file paid.csv\nweft judge chain --svg chain.svg\nweft judge low high\nweft judge log.history --top 2\nweft judge -- sent/*\n"
+    "weft judge proof --file paid.csv\nweft judge chain --svg chain.svg\nweft judge chain --report report.html\nweft judge low high\nweft judge log.history --top 2\nweft judge -- sent/*\n"
     "weft judge --many proofs/ --table proofs.tsv"
 )
 
@@ -51,13 +53,15 @@ def add(parser: argparse.ArgumentParser) -> None:
     parser.add_argument("proofs", metavar="PROOF", nargs="*", help="proofs, map files, evidence, histories")
     parser.add_argument("--kept", metavar="FILE", type=Path, action="append", help="a file of kept lines; several may be named (else WEFT_KEPT, ..)")
     signatures.add_signers(parser)
-    parser.add_argument("--file", metavar="F", help="holds the event against the digest and the name of this file")
+    stamps.add_authorities(parser)
+    parser.add_argument("--file", action=Once, metavar="F", help="holds the event against the digest and the name of this file")
     parser.add_argument("--audit", metavar="HISTORY", type=Path, action="append", default=[], help="holds what is shown against this history; may be repeated")
     parser.add_argument("--carried", action="store_true", help="accepts proofs that carry lines, and says which")
-    parser.add_argument("--top", metavar="STEP", type=int, help="of a history: judges it up to this step (else up to its last one)")
-    parser.add_argument("--svg", metavar="OUT", help="draws what is shown as a picture")
-    parser.add_argument("--many", metavar="FOLDER", help="judges all files of the folder")
-    parser.add_argument("--table", metavar="FILE", help="with --many: the table (else FOLDER.verdicts.tsv); a run that was stopped is gone on with")
+    parser.add_argument("--top", action=Once, metavar="STEP", type=int, help="of a history: judges it up to this step (else up to its last one)")
+    parser.add_argument("--svg", action=Once, metavar="OUT", help="draws what is shown as a picture")
+    parser.add_argument("--report", action=Once, metavar="OUT.html", help="writes all of it, with what it rests on, digests and how to repeat it, as a page for a court's file")
+    parser.add_argument("--many", action=Once, metavar="FOLDER", help="judges all files of the folder")
+    parser.add_argument("--table", action=Once, metavar="FILE", help="with --many: the table (else FOLDER.verdicts.tsv); a run that was stopped is gone on with")
     parser.add_argument("--workers", metavar="N", type=int, help="with --many: how many processes (else one a processor)")
     parser.add_argument("--dask", metavar="ADDRESS", help="with --many: over the Dask cluster whose scheduler has this address, as tls://host:8786")
     parser.add_argument("--tls", metavar=("CA", "CERT", "KEY"), nargs=3, help="with --dask: the files of the authority, of the own certificate and of its key")
@@ -65,13 +69,28 @@ def add(parser: argparse.ArgumentParser) -> None:
     parser.add_argument("--json", action="store_true", help="writes JSON, a line for each")
 
 
+class Sheet(NamedTuple):
+    """What a report has: the facts of each judgement, its picture where there is one, and what is told of several files together."""
+
+    each: list[Facts]
+    pictures: list[Optional[str]]
+    between: list[str]
+
+    def add(self, known: Facts, picture: Optional[str] = None) -> None:
+        """Adds a judgement."""
+        self.each.append(known)
+        self.pictures.append(picture)
+
+
 class Judged(NamedTuple):
-    """A group of files that was judged, its judgement where there is one, the status of it by itself, and whether it contradicts itself."""
+    """A group of files that was judged, of a bundle its proof; its judgement where there is one, and where it may stand against others, which isn't so of one under a line that
+    a stamp alone meets; the status of it by itself, whether it contradicts itself, and its picture where one is wanted."""
 
     group: list[Named]
     judgement: Optional[Judgement]
     status: Status
     is_refuted: bool = False
+    picture: Optional[str] = None
 
 
 def run(options: argparse.Namespace) -> Status:
@@ -79,8 +98,9 @@ def run(options: argparse.Namespace) -> Status:
     kept = signatures.counted(lines.kept_of(options.kept), options.signers)
     judge = judges.bench(options.reference)
     expect_words(options)
-    if options.kept and not options.json:
-        say(choosing.told_kept(options.kept))
+    options.sheet, options.days = Sheet([], [], []), stamps.Days(kept, options.authorities)
+    for text in choosing.told_kept(options.kept) if not options.json else ():
+        say(text)
     status = bulk.run(options, kept, judge) if options.many else judge_named(options, kept, judge)
     return worst_of([status, kept.status])
 
@@ -88,8 +108,8 @@ def run(options: argparse.Namespace) -> Status:
 def expect_words(options: argparse.Namespace) -> None:
     """Raises Trouble where words don't go together, before anything is judged."""
     if options.many:
-        if options.proofs or options.file or options.svg or options.audit or options.top is not None:
-            raise Trouble(Status.USAGE, "--many takes no proofs, --file, --svg, --audit or --top beside it", "See weft judge --help.")
+        if options.proofs or options.file or options.svg or options.report or options.audit or options.top is not None:
+            raise Trouble(Status.USAGE, "--many takes no proofs, --file, --svg, --report, --audit or --top beside it", "See weft judge --help.")
         return
     if options.dask or options.tls:
         raise Trouble(Status.USAGE, "--dask and --tls are for --many", "See weft judge --help.")
@@ -109,18 +129,28 @@ def judge_named(options: argparse.Namespace, kept: KeptLines, judge: Bench) -> S
         for group in groups:
             found = judge_or_tell(options, kept, judge, group)
             statuses.append(found.status)
+            statuses.append(hand_out_picture(options, found.picture) if options.svg else Status.DONE)
             if found.judgement is not None and found.judgement.is_shown and found.is_refuted:
-                broken |= {told.service for it in group if (told := formats.told_by(it.data, found.judgement.lines)) is not None}
-            elif found.judgement is not None and found.judgement.is_shown:
-                shown.append((group, found.judgement))
+                broken |= {told.service for it in found.group if (told := formats.told_by(it.data, found.judgement.lines)) is not None}
+            elif found.judgement is not None and (found.judgement.is_shown or is_in_part(found.judgement)):
+                shown.append((found.group, found.judgement))
         broken |= contradicted(options, judge, shown)
-        statuses += [Status.CONTRADICTION if broken else Status.DONE, told_apart(options, judge, shown, broken)]
+        statuses += [Status.CONTRADICTION if broken else Status.DONE, told_apart(options, kept, judge, shown, broken)]
     except Trouble as trouble:
         complain(trouble.told())
         statuses.append(trouble.status)
+        options.sheet.between.append(trouble.told())
         if options.json:
             say_json({"status": int(trouble.status), "says": [trouble.told()]})
+    if options.report and options.sheet.each:
+        sheet: Sheet = options.sheet
+        files.hand_out(options.report, sheets.page(sheet.each, sheet.pictures, sheet.between, worst_of([*statuses, kept.status])))
     return worst_of(statuses)
+
+
+def is_in_part(judgement: Judgement) -> bool:
+    """Whether a judgement is of a history that kept lines bind up to an earlier step: up to there it is held against other files."""
+    return judgement.history is not None and judgement.history.extent is Extent.PART
 
 
 def read_named(options: argparse.Namespace, path: str) -> Union[Named, Status]:
@@ -128,18 +158,19 @@ def read_named(options: argparse.Namespace, path: str) -> Union[Named, Status]:
     try:
         data = formats.read_file(path)
     except Trouble as trouble:
-        tell_trouble(options, [path], trouble)
+        tell_trouble(options, [Named(path, b"", "text")], trouble)
         return trouble.status
     return Named(path, data, formats.kind_of(data))
 
 
-def tell_trouble(options: argparse.Namespace, paths: list[str], trouble: Trouble) -> None:
+def tell_trouble(options: argparse.Namespace, group: list[Named], trouble: Trouble) -> None:
     """Says that files weren't judged, and why."""
+    known = facts.troubled(group, trouble)
+    options.sheet.add(known)
     if options.json:
-        told = {"files": paths, "headline": Headline.NOT_JUDGED.value, "shown": False, "status": int(trouble.status), "says": [trouble.told()]}
-        say_json(told)
+        say_json(known)
         return
-    say(f"{' and '.join(map(name_of, paths))}: {Headline.NOT_JUDGED.value}")
+    say(f"{' and '.join(name_of(it.path) for it in group)}: {Headline.NOT_JUDGED.value}")
     complain(trouble.told())
 
 
@@ -173,39 +204,58 @@ def judge_or_tell(options: argparse.Namespace, kept: KeptLines, judge: Bench, gr
     except Trouble as trouble:
         if trouble.status not in (Status.NO_MEMORY, Status.DISK):
             raise
-        tell_trouble(options, paths, trouble)
+        tell_trouble(options, group, trouble)
         return Judged(group, None, trouble.status)
 
 
 def judge_group(options: argparse.Namespace, kept: KeptLines, judge: Bench, group: list[Named]) -> Judged:
-    """Judges a group and says what came of it."""
+    """Judges a group, or the proof of a bundle, and says what came of it."""
+    own, whole, opened = kept, group[0], None
     try:
-        judgement = outcomes.judgement_of(judge, kept, group, options.carried, options.top)
+        if group[0].kind == "bundle":
+            bundles.expect_alone(options)
+            opened = bundles.open_bundle(group[0], kept, options.days, options.signers or signatures.default_signers())
+            group, kept = [opened.proof], opened.kept
+        judgement = choosing.with_held(judge, group[0].data, kept, outcomes.judgement_of(judge, kept, group, options.carried, options.top))
         outcome = outcomes.outcome_of(judge, kept, group, judgement)
-        outcome = outcome._replace(told=[*outcome.told, *choosing.uncounted_sentences(kept, services_of(judgement))])
+        told = [*dated.sentences(judge, options.days, group, judgement, outcome), *choosing.uncounted_sentences(kept, services_of(judgement))]
+        outcome = outcome._replace(told=[*outcome.told, *told])
     except Trouble as trouble:
         if trouble.status in (Status.MISSING, Status.UNREADABLE, Status.CONTRADICTION, Status.DIFFER):
-            tell_trouble(options, [it.path for it in group], trouble)
+            tell_trouble(options, group, trouble)
             return Judged(group, None, trouble.status)
         raise
-    is_told = judgement.is_shown and not outcome.is_refuted
-    if is_told and options.file:
-        outcome = outcomes.unless_troubled(outcome, lambda it: outcomes.with_file(judge, it, judgement, options.file))
-    if is_told and options.audit:
+    is_held = outcomes.is_held_against(judgement, outcome)
+    if opened is not None:
+        outcome = bundles.with_met(bundles.with_record(judge, outcome, opened, judgement), opened, judgement, own)
+    if is_held and options.file:
+        outcome = outcomes.unless_troubled(outcome, lambda it: outcomes.with_file(judge, it, judgement, group, options.file))
+    elif is_held and (opened is None or opened.record is None):
+        outcome = outcomes.without_file(judge, outcome, judgement, group)
+    if is_held and options.audit:
         outcome = outcomes.unless_troubled(outcome, lambda it: outcomes.with_histories(judge, kept, it, judgement, group[0].data, options.audit))
+    known = facts.facts(options, judge, kept, group if opened is None else [opened.proof._replace(path="proof")], judgement, outcome) if options.json or options.report else {}
+    if known and opened is not None:
+        known = bundles.facts_of(known, whole, opened)
     if options.json:
-        say_json(as_json(options, judge, kept, group, judgement, outcome))
+        say_json(known)
     else:
         tell(judge, group, judgement, outcome)
-    if options.svg and judgement.verdict is not None and outcome.headline in (Headline.SHOWN, Headline.IN_PART):
-        files.hand_out(options.svg, pictures.verdict(reports.read_report(judgement.verdict), judgement.lines, map_name(group)).encode())
-    return Judged(group, judgement, outcome.status, outcome.is_refuted)
+    picture = facts.picture_of(judge, group, judgement, outcome) if options.svg or options.report else None
+    if options.report:
+        options.sheet.add(known, picture)
+    is_doubtful = opened is not None and is_on_a_word(judgement.counting, opened.met)
+    return Judged(group, None if is_doubtful else judgement, outcome.status, outcome.is_refuted, picture)
 
 
-def services_of(judgement: Judgement) -> list[str]:
-    """The services of whose lines a judgement is."""
-    of_history = [judgement.history.service] if judgement.history is not None else []
-    return [*of_history, *(line.service for line in judgement.lines), *(needed.service for needed in judgement.missing)]
+def hand_out_picture(options: argparse.Namespace, picture: Optional[str]) -> Status:
+    """Writes the picture of what was judged; where nothing is shown there is none, and one that an earlier run drew isn't of this: that is told."""
+    if picture is not None:
+        files.hand_out(options.svg, picture.encode())
+    else:
+        still = f"; {name_of(options.svg)}, which is there, is of something else" if files.is_there(options.svg) else ""
+        complain(f"no picture was drawn, since nothing is shown{still}.")
+    return Status.DONE
 
 
 def tell(judge: Bench, group: list[Named], judgement: Judgement, outcome: Outcome) -> None:
@@ -215,48 +265,15 @@ def tell(judge: Bench, group: list[Named], judgement: Judgement, outcome: Outcom
         say(f"  {line}")
 
 
-def as_json(
-    options: argparse.Namespace, judge: Bench, kept: KeptLines, group: list[Named], judgement: Judgement, outcome: Outcome
-) -> dict[str, object]:
-    """What is written as JSON, which says what the sentences say."""
-    return {
-        "files": [it.path for it in group],
-        "sha256": [digest_of(it.data) for it in group],
-        "kind": group[0].kind,
-        "headline": outcome.title,
-        "shown": outcome.headline is Headline.SHOWN,
-        "status": int(worst_of([outcome.status, kept.status])),
-        "text": judgement.verdict.text if judgement.verdict is not None else None,
-        "says": outcome.told,
-        "lines": [
-            {**line._asdict(), "kept": [{"date": it.date, "how": it.how} for it in kept.at(line.service, line.step)]} for line in judgement.lines
-        ],
-        "kept": [str(path) for path in options.kept or [lines.default_kept()]],
-        "missing": [needed._asdict() for needed in judgement.missing],
-        "not_counting": [{**it.line._asdict(), "date": it.date, "how": it.how} for it in choosing.uncounted(kept, services_of(judgement))],
-        "contradicts": [line._asdict() for line in outcome.contradicted],
-        "bound": bound_step(judgement),
-        "beyond": judgement.history.held.beyond if judgement.history is not None else None,
-        "judged_by": [one.name for one in judge.seated(judgement.call)] if judgement.verdict is not None else [],
-    }
-
-
-def bound_step(judgement: Judgement) -> Optional[int]:
-    """Up to which step a history is bound, 0 for by no line; None of another file."""
-    if judgement.history is None:
-        return None
-    line = judgement.history.held.bound
-    return line.step if line is not None and not judgement.history.held.differing else 0
-
-
-def told_apart(options: argparse.Namespace, judge: Bench, shown: list[tuple[list[Named], Judgement]], broken: Collection[str]) -> Status:
+def told_apart(options: argparse.Namespace, kept: KeptLines, judge: Bench, shown: list[tuple[list[Named], Judgement]], broken: Collection[str]) -> Status:
     """Whether two of the accepted files tell two lines of one step; a history is asked for the steps that others tell. What services that broke a rule received
     shows nothing of others."""
-    told = [(place, line) for place, (group, judgement) in enumerate(shown) for line in outcomes.lines_that_count(judge, group, judgement, broken)]
+    told = [(place, line) for place, (group, judgement) in enumerate(shown) for line in outcomes.lines_that_count(judge, kept, group, judgement, broken)]
     for place, (group, judgement) in enumerate(shown):
         history = formats.timeline_of(group[0].data) if judgement.history is not None else None
         if history is not None:
-            steps = dict.fromkeys(line.step for _, line in told if line.service == history.service and line.step <= history.last)
+            bound = judgement.lines[0].step
+            steps = dict.fromkeys(line.step for _, line in told if line.service == history.service and line.step <= bound)
             told += [(place, Line(history.service, step, history.authenticators[step])) for step in steps]
     found = find_two_lines(told)
     for it in found:
@@ -268,6 +285,7 @@ def tell_two_lines(options: argparse.Namespace, it: Differing, first: str, secon
     """Says that two files tell two lines of one step."""
     said = {"first": name_of(first), "second": name_of(second), "one": it.one.authenticator[:16], "other": it.other.authenticator[:16]}
     told = f"TWO LINES: {fill('told twice', service=it.one.service, step=it.one.step, **said)} {fill('keep both', service=it.one.service)}"
+    options.sheet.between.append(told)
     if options.json:
         say_json({"two_lines": [first, second], **it.one._asdict(), "other": it.other.authenticator, "status": int(Status.CONTRADICTION), "says": [told]})
     else:
@@ -313,6 +331,7 @@ def pairs_of(options: argparse.Namespace, held: list[Held]) -> Iterator[tuple[He
 def tell_contradiction(options: argparse.Namespace, judge: Bench, verdict: Verdict, first: str, second: str) -> None:
     """Says that two files contradict each other."""
     told = reports.contradiction_sentences(verdict, name_of(first), name_of(second))
+    options.sheet.between.extend(told)
     if options.json:
         by = [one.name for one in judge.seated("contradict")]
         say_json({"contradiction": [first, second], "status": int(Status.CONTRADICTION), "text": verdict.text, "says": told, "judged_by": by})

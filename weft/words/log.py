@@ -67,7 +67,7 @@ def run(options: argparse.Namespace) -> Status:
     with locks.held(beside(service, ".lock"), options.wait, service):
         log = Log(service, judges.bench())
         log.begin(options.name, adopted)
-        day = Day(log, Wanted(options.all, options.gone, options.no_time, options.all_read, options.workers))
+        day = Day(log, Wanted(options.all, options.gone, options.no_time, options.all_read, options.workers), folder)
         return logged(options, log, Look(folder, service, day.is_full, options.workers), day)
 
 
@@ -82,20 +82,33 @@ def check_folders(folder: Path, service: Path) -> None:
         raise Trouble(Status.DISK, f"{name_of(service)} is a file", "Name a folder for the service.")
     if service.is_dir() and os.path.samefile(folder, service):
         raise Trouble(Status.USAGE, f"{name_of(service)} is the logged folder itself", "Name another folder for the service.")
+    above = Path(os.path.realpath(service.parent))
+    if logs.is_new(service) and any(os.path.samefile(folder, it) for it in (above, *above.parents)):
+        told = f"{name_of(service)} would lie in {name_of(folder)}: what is put there under the names of its files would never be logged"
+        raise Trouble(Status.USAGE, told, "Name a folder elsewhere for the service.")
 
 
 def logged(options: argparse.Namespace, log: Log, look: Look, day: Day) -> Status:
     """Makes the steps, and says what they have."""
     day.run(look)
-    tell(options, log, look, day)
+    status = status_of(options, log, look, day)
+    tell(options, log, look, day, status)
     day.tell_replaced()
+    if day.is_elsewhere:
+        complain(f"{name_of(log.service)} was the log of another folder than {name_of(options.folder)} at its last run: what differs was logged as new, changed or gone.")
     if look.left_out:
         what = count_of(len(look.left_out), "file or folder", "files or folders")
         complain(f"{what} left out: nothing is logged of them. See to it that they can be read, and run weft log again.")
     if day.is_fewer and not options.gone:
         complain(fewer(options.folder, day.counts))
+    return status
+
+
+def status_of(options: argparse.Namespace, log: Log, look: Look, day: Day) -> Status:
+    """How a run ends whose steps are made."""
+    if day.is_fewer and not options.gone:
         return Status.FEWER
-    return Status.LOOK if look.left_out or (day.counts.replaced and not options.gone) else log.status
+    return Status.LOOK if look.left_out or day.is_elsewhere or (day.counts.replaced and not options.gone) else log.status
 
 
 def fewer(folder: Path, counts: Counts) -> str:
@@ -136,14 +149,15 @@ def made_told(made: Sequence[Line]) -> str:
     return listed([f"{steps_of(numbers)} of {service}" for service, numbers in steps.items()])
 
 
-def tell(options: argparse.Namespace, log: Log, look: Look, day: Day) -> None:
+def tell(options: argparse.Namespace, log: Log, look: Look, day: Day, status: Status) -> None:
     """Says what was logged, and the line to hand out."""
     counts, with_gone, with_replaced = day.counts, day.logs(Fate.GONE), day.logs(Fate.REPLACED)
     if options.json:
         number = (counts.gone if with_gone else 0) + (counts.replaced if with_replaced else 0)
         not_logged = {"missing": 0 if with_gone else counts.gone, "replaced": 0 if with_replaced else counts.replaced}
         found = {"new": counts.new, "changed": counts.changed, "same": counts.same, "gone": number, **not_logged, "left_out": len(look.left_out)}
-        say_json({"steps": [line.step for line in day.made], **found, "read": counts.read, "all_read": day.full, "line": log.last._asdict()})
+        made = {"steps": [line.step for line in day.made], **found, "read": counts.read, "all_read": day.full, "line": log.last._asdict()}
+        say_json({**made, "status": int(status)})
         return
     say(f"{made_told(day.made)}: {summary(day)}{', all logged' if options.all else ''}")
     if counts.logged:
