@@ -12,7 +12,7 @@ const KINDS = [
     { kind: "message", letters: "TWT1", says: "This is a message to another service, and no proof: `timeweave receive` and `offer` take it." },
     { kind: "receipt", letters: "TWR1", says: "This is a receipt, which shows nothing by itself: `timeweave prove DIR thread` writes the proof." },
     { kind: "events", letters: "TWE1", says: "This is a file of events that are to be recorded, and no proof: `timeweave append` takes it." },
-    { kind: "history", letters: "TWH1", says: "This is a whole history, and no proof: `timeweave show` makes a proof of it." },
+    { kind: "history", letters: "TWH1" },
 ];
 
 const lettersOf = (bytes) => String.fromCharCode(...bytes.subarray(0, 4));

@@ -1,7 +1,16 @@
 /** Lines, NAME STEP AUTHENTICATOR: reading them, those that contradict each other, and the choice of those that a proof asks for. */
 
+import { isTakenOut, readTyped } from "./letters.mjs";
+
 const LAST_STEP = 2 ** 40 - 1;
+/** A longer text isn't read as one that somebody typed. */
+const MOST_TYPED = 1 << 20;
 const LINE = /^([a-z0-9-]{1,16}) (0|[1-9][0-9]{0,12}) ([0-9a-f]{64})$/i;
+/** What weft writes into a file of kept lines: a line with the day and how it came, and the lines of a step that were seen to contradict each other. */
+const KEPT = /^([a-z0-9-]{1,16} [0-9]{1,13} [0-9a-fA-F]{64}) ([0-9]{4}-[0-9]{2}-[0-9]{2})T[0-9]{2}:[0-9]{2}:[0-9]{2}Z(?: (.*))?$/;
+const MARK = /^(?:contradiction|chosen): ([a-z0-9-]{1,16} [0-9]{1,13})((?: [0-9a-fA-F]{64}){2,})(?: .*)?$/;
+/** How a line came that counts by a key alone, of which a page knows nothing. */
+const BY_KEY = "signed by ";
 
 /** The text of a file's bytes: UTF-16 where it begins with its mark, as Windows writes it, else UTF-8. */
 function textOf(bytes) {
@@ -19,18 +28,40 @@ function readLine(text) {
     return { service: words[1], step, authenticator: words[3].toLowerCase() };
 }
 
+/** The lines that one line of a file tells: its own, a kept one with its `day` and `how` it came, or each that a mark of weft's names; or the one that it is none. */
+function readLinesOf(text) {
+    const mark = MARK.exec(text), kept = KEPT.exec(text);
+    if (mark) return mark[2].trim().split(" ").map((authenticator) => readLine(`${mark[1]} ${authenticator}`));
+    return [kept ? { ...readLine(kept[1]), day: kept[2], how: kept[3] ?? "" } : readLine(text)];
+}
+
 /**
  * The lines of a file's bytes, or of a typed text: `lines` of {service, step, authenticator, number}, the number being that of the line in
- * the file, from 1, and `bad` of {number, text, why}. Empty lines, and blanks around a line, are passed over.
+ * the file, from 1, and `bad` of {number, text, why}. Empty lines, and blanks around a line, are passed over. Lines are taken too as weft keeps them, of which those that came
+ * by a key alone are `found`. A text that has anything else, but lines that were taken out by #, is read as one that somebody typed, in groups: then `bad` has what was typed
+ * wrong, as {number, typed}; and where other words stand beside them, which may say anything of the lines, these don't count, and are `found` alone, as those of a text are
+ * that is too long to be typed.
  */
 export function readLines(given) {
-    const lines = [], bad = [];
-    for (const [at, text] of (typeof given === "string" ? given : textOf(given)).split(/\r\n|\n|\r/).entries()) {
-        const trimmed = text.trim(), line = trimmed && readLine(trimmed);
-        if (line && line.why) bad.push({ number: at + 1, text: trimmed, why: line.why });
-        else if (line) lines.push({ ...line, number: at + 1 });
+    const lines = [], bad = [], signed = [], whole = typeof given === "string" ? given : textOf(given);
+    for (const [at, text] of whole.split(/\r\n|\n|\r/).entries()) {
+        const trimmed = text.trim();
+        for (const line of trimmed ? readLinesOf(trimmed) : []) {
+            if (line.why) bad.push({ number: at + 1, text: trimmed, why: line.why });
+            else (line.how?.startsWith(BY_KEY) ? signed : lines).push({ ...line, number: at + 1 });
+        }
     }
-    return { lines, bad };
+    if (bad.every(({ text }) => isTakenOut(text))) return { lines, bad, found: signed };
+    if (whole.length > MOST_TYPED) return { lines: [], bad, found: [...lines, ...signed] };
+    const read = readTyped(whole);
+    return read.typed.some(({ fault }) => fault !== "digits alone") ? ofTyped(read) : { lines: [], bad, found: [...lines, ...signed] };
+}
+
+/** The lines of those that somebody typed, and what was typed wrong. */
+function ofTyped({ typed, others }) {
+    const read = typed.map((it) => (it.fault ? { number: it.number, typed: it } : { ...readLine(`${it.service} ${it.step} ${it.digits}`), number: it.number }));
+    const good = read.filter(({ service }) => service), bad = read.filter(({ service }) => !service);
+    return others.length ? { lines: [], bad, found: good } : { lines: good, bad, found: [] };
 }
 
 const keyOf = ({ service, step }) => `${service} ${step}`;
@@ -110,8 +141,23 @@ export function chooseLines(judge, pick) {
         if (!asked) return { answer, anchors };
         const other = anchors.find(({ service }) => service === asked.service);
         const { line, lacks } = other ? { lacks: { other: other.step } } : pick(asked);
-        if (!line) return { answer, anchors, missing: { ...asked, ...lacks } };
+        if (!line) {
+            const others = other ? [] : furtherMissing(judge, pick, anchors, asked);
+            return { answer, anchors, missing: { ...asked, ...lacks, ...(others.length ? { others } : {}) } };
+        }
         anchors.push(line);
+    }
+}
+
+/** The further lines that a proof asks for and that can't be held, each {service, step} with what `pick` said, behind a first one: the verifier asks for one only once those before are there. */
+function furtherMissing(judge, pick, anchors, first) {
+    const standIn = (asked) => ({ ...asked, authenticator: "0".repeat(64) }), held = [...anchors, standIn(first)], found = [];
+    for (;;) {
+        const asked = askedFor(judge(anchorsText(held)).text);
+        if (!asked || held.some(({ service }) => service === asked.service)) return found;
+        const { line, lacks } = pick(asked);
+        if (!line) found.push({ ...asked, ...lacks });
+        held.push(line ?? standIn(asked));
     }
 }
 

@@ -1,38 +1,39 @@
 /** The page: takes files, has them judged, and shows what comes of it. */
 
 import { Timeweave } from "../timeweave.mjs";
-import { OWN, SENT, Session, readFile, takeFile } from "./session.mjs";
-import { conflictArticle, contradictionAlerts, digestRows, element, heldFiles, summaryWords, uncomparedArticles, verdictArticle } from "./view.mjs";
-import { hexOf } from "./words.mjs";
+import { digestOfBlob } from "./documents.mjs";
+import { DOCUMENT, OWN, SENT, Session, readFile, takeFile } from "./session.mjs";
+import { boldItems, conflictArticle, contradictionAlerts, digestRows, element, heldFiles, paperParts, strayArticles, summaryWords, uncomparedArticles, verdictArticle } from "./view.mjs";
+import { fill } from "./words.mjs";
 
 const at = (id) => document.getElementById(id);
 const bytesOfBase64 = (text) => Uint8Array.from(atob(text), (it) => it.charCodeAt(0));
 const settled = () => new Promise((done) => setTimeout(done));
-
-/** Files above this size aren't held whole, so their digests aren't computed here. */
-const MOST_TO_DIGEST = 2 ** 30;
 
 const own = new Session();
 let session = own, alerted = own, timeweave, round = 0, judgements = [], conflicts = [];
 
 // ---- digests
 
-async function sha256(bytes) {
-    if (!globalThis.crypto?.subtle) return "not computed here: open the page from disk, or over https";
-    return hexOf(new Uint8Array(await crypto.subtle.digest("SHA-256", bytes)));
-}
-
-async function digestOf(file) {
-    if (file.size > MOST_TO_DIGEST) return "not computed here: the file is larger than 1 GiB";
+/** Computes a file's digest, with who computed it; of one that can't be read the fault stays with it. `onPiece` is given how many bytes were read. */
+async function digest(file, onPiece = settled) {
     try {
-        return await sha256(await file.blob.arrayBuffer());
+        if (!file.digest) Object.assign(file, await digestOfBlob(file.blob, onPiece));
     } catch {
-        return "not computed: the file can't be read any more";
+        file.fault = "not computed: the file can't be read any more";
     }
 }
 
+/** Computes a document's digest, with progress: it is judged by that. */
+function digestDocument(file) {
+    return digest(file, (count) => {
+        at("progress").textContent = `Reading ${file.name}: ${Math.floor((100 * count) / file.size)} %`;
+        return settled();
+    });
+}
+
 async function digestAll(files) {
-    for (const file of files) file.digest ??= await digestOf(file);
+    for (const file of files) await digest(file);
     at("digests").querySelector("tbody").replaceChildren(...digestRows(session.files));
 }
 
@@ -45,10 +46,26 @@ function remove(file) {
     show();
 }
 
+/** Lets a line of a file count that was found amid other words. */
+function count(file, line) {
+    file.found = file.found.filter((it) => it !== line);
+    file.lines.push(line);
+    show();
+}
+
+/** Puts a file into another field. */
+async function move(file, place) {
+    const moved = readFile({ ...file, place });
+    own.remove(file);
+    own.add(moved);
+    at(`${place}-files`).focus();
+    if (place === DOCUMENT) await digestDocument(moved);
+    show();
+}
+
 function showFiles() {
-    const onRemove = session === own ? remove : null;
-    at("sent-held").replaceChildren(...heldFiles(session, SENT, onRemove));
-    at("own-held").replaceChildren(...heldFiles(session, OWN, onRemove));
+    const onRemove = session === own ? remove : null, onMove = session === own ? move : null;
+    for (const place of [SENT, OWN, DOCUMENT]) at(`${place}-held`).replaceChildren(...heldFiles(session, place, onRemove, onMove, onMove && count));
     at("shown-example").hidden = session === own;
     const aside = own.files.length ? "Your own files are set aside." : "";
     at("shown-example").firstElementChild.textContent = session === own ? "" : `Example: ${session.title}. ${aside}`;
@@ -68,8 +85,8 @@ function showVerdicts() {
         at("verdicts").focus();
         show();
     };
-    const alone = uncomparedArticles(session.uncompared(judgements));
-    const articles = [...conflicts.map(conflictArticle), ...alone, ...judgements.map((judged) => verdictArticle(judged, { room: room(), onCount }))];
+    const each = judgements.map((judged) => verdictArticle(judged, { room: room(), onCount })), stray = strayArticles(session.strayDocuments(judgements));
+    const articles = [...conflicts.map(conflictArticle), ...uncomparedArticles(session.uncompared(judgements)), ...each, ...stray];
     const lacks = session.files.length ? "add a proof to what you were sent" : "add what you were sent, and the lines that you got another way";
     at("judged").replaceChildren(...(articles.length ? articles : [element("p", { className: "none" }, `None yet: ${lacks}.`)]));
 }
@@ -103,8 +120,9 @@ async function show() {
     conflicts = held.conflicts(timeweave, found);
     at("progress").textContent = "";
     showVerdicts();
+    at("again").replaceChildren(...(found.length ? paperParts(found, new Date()) : []));
     performance.mark("judged");
-    at("summary").textContent = summaryWords(found, conflicts, held.uncompared(found));
+    at("summary").textContent = summaryWords(found, conflicts, held.uncompared(found), held.strayDocuments(found));
     digestAll(held.files);
 }
 
@@ -126,7 +144,9 @@ async function takeAll(files, place) {
         at("progress").textContent = `Reading ${number + 1} of ${files.length}: ${file.name}`;
         await settled();
         try {
-            if (!own.add(await takeFile(file, file.name, place))) problems.push(`${file.name} is there already.`);
+            const taken = await takeFile(file, file.name, place);
+            if (!own.add(taken)) problems.push(`${file.name} is there already.`);
+            else if (place === DOCUMENT) await digestDocument(taken);
         } catch {
             problems.push(`${file.name} can't be read: it is a folder, or it was moved.`);
         }
@@ -163,7 +183,7 @@ function watchDocument() {
     document.addEventListener("drop", (event) => {
         event.preventDefault();
         if (event.target.closest?.(".field")) return;
-        at("progress").textContent = "Drop the files on one of the two fields: what you were sent, or lines that you got another way.";
+        at("progress").textContent = "Drop the files on one of the three fields: what you were sent, lines that you got another way, or the document itself.";
     });
     let width = room();
     addEventListener("resize", () => {
@@ -196,8 +216,12 @@ async function begin() {
     const module = bytesOfBase64(at("module").textContent);
     timeweave = new Timeweave(await WebAssembly.compile(module));
     at("version").textContent = timeweave.version();
+    at("not-shown").replaceChildren(...boldItems(["not who", "not the day", "not of broken rules", "not what else"]));
+    at("assumed").replaceChildren(...boldItems(["assume lines", "assume rules", "assume digests"]));
+    at("theorem").textContent = `${fill("theorem")}`;
     watchField("sent", SENT);
     watchField("own", OWN);
+    watchField("document", DOCUMENT);
     watchDocument();
     offerExamples();
     at("add-typed").addEventListener("click", takeTyped);
@@ -206,7 +230,7 @@ async function begin() {
     at("print").addEventListener("click", () => print());
     document.documentElement.dataset.ready = "yes";
     performance.mark("ready");
-    at("module-sum").textContent = await sha256(module);
+    at("module-sum").textContent = (await digestOfBlob(new Blob([module]))).digest;
 }
 
 begin().catch((fault) => {

@@ -4,7 +4,7 @@
  */
 
 import { heldAs } from "./lines.mjs";
-import { eventWords, timeWords } from "./words.mjs";
+import { eventLabel, eventWords, timeWords } from "./words.mjs";
 
 const placeKey = ([service, step]) => `${service} ${step}`;
 
@@ -32,7 +32,7 @@ export function drawing(report, anchors, own = []) {
     for (const event of report.events) {
         const at = point(event.service, event.step);
         at.event = event;
-        at.says.push(`event ${eventWords(event.data)}${event.time === undefined ? "" : `, claimed for ${timeWords(event.time)}`}`);
+        at.says.push(`event ${eventWords(event.data, 80, 16)}${event.time === undefined ? "" : `, claimed for ${timeWords(event.time)}`}`);
     }
     if (report.received) {
         const { service, step, thread, archived } = report.received;
@@ -155,7 +155,7 @@ function pointMarks(at, it) {
     parts.push(made("circle", { class: it.event ? "event" : "step", cx: x, cy: y, r: it.event ? 7 : 5 }));
     below(29, `step ${it.step}`);
     if (it.anchor) below(44, it.anchor.from.isSender ? "sender's line" : "your line");
-    if (it.event) parts.push(made("text", { class: "data", x, y: y - 20, "text-anchor": "middle" }, `${eventWords(it.event.data, 18)}`));
+    if (it.event) parts.push(made("text", { class: "data", x, y: y - 20, "text-anchor": "middle" }, `${eventLabel(it.event.data, 18)}`));
     if (it.event?.time !== undefined) below(-37, `claims ${timeWords(it.event.time)}`);
     return parts;
 }
@@ -230,7 +230,7 @@ function strip(drawn, { found, count }, row) {
 export function legendOf({ arrows, spans }, isLines) {
     const kinds = new Set(arrows.map(({ kind }) => kind));
     return [
-        isLines ? "Each line is a service's history, later steps to the right." : "Later steps are below; only steps that lines join are in an order.",
+        isLines ? "Each row is a service's history, later steps to the right." : "Later steps are below; only steps that a stroke joins are in an order.",
         `Squares are the lines that counted${isLines && spans.length ? ", green is what they bind" : ""}.`,
         ...(kinds.has("bound") || kinds.has("carried") ? ["An arrow leads from a step to the step of another service that received it."] : []),
         ...(kinds.has("order") ? ["An arrow leads from a step to a later one of another service."] : []),

@@ -1,30 +1,45 @@
 /** The files and lines that are held, what the user chose, and what the verifier says of each proof. */
 
 import { ACCEPTED, MOST_BYTES, REJECTED, readBounds, readContradiction, readFork, readReport } from "../timeweave.mjs";
+import { matchFile, readRecorded, wholeDigest } from "./documents.mjs";
 import { isLink, kindOf, mapOf } from "./files.mjs";
-import { anchorsText, askedFor, chooseLines, contradicted, contradictions, linesThatCount, pickBy, readLines, twoLines } from "./lines.mjs";
-import { linkTo, openedStep } from "./opened.mjs";
+import { findSlip } from "./letters.mjs";
+import { anchorsText, askedFor, chooseLines, contradicted, contradictions, heldAs, linesThatCount, pickBy, readLines, twoLines } from "./lines.mjs";
+import { linkTo, shownBy } from "./opened.mjs";
 import { toldLines } from "./words.mjs";
 
 /** Where a file was put: among what was sent, or among the lines got another way. */
 export const SENT = "sent";
 export const OWN = "own";
+/** Where the document itself was put. */
+export const DOCUMENT = "document";
+const LINE_END = 10;
 
 /** What was read of a file: {name, size, blob, bytes, place}, its kind, its lines, and what the page says of it beside that. */
 export function readFile({ name, size, blob, bytes, place, source }) {
     const known = kindOf(bytes), isCut = size > bytes.length, file = { name, size, blob, bytes, place, source, lines: [], bad: [], notes: [] };
+    if (place === DOCUMENT) return Object.assign(file, { kind: "document", ...strangeDocument(known, bytes, isCut) });
     if (known) {
         if (place === OWN) file.notes.push("This is no file of lines, so it was put among what you were sent.");
         if (known.says) file.notes.push(known.says);
         return Object.assign(file, { kind: known.kind, place: SENT });
     }
-    const { lines, bad } = readLines(bytes);
-    if (isCut) bad.pop();
+    const read = readLines(isCut ? bytes.subarray(0, bytes.lastIndexOf(LINE_END) + 1) : bytes), { bad } = read;
+    const { lines, found } = place === SENT ? { lines: [...read.lines, ...read.found], found: [] } : read;
     if (isCut && place === OWN) file.notes.push(`It is longer than any file of lines: only its first ${MOST_BYTES.toLocaleString("en")} bytes were read.`);
-    if (place === SENT && !lines.length) return Object.assign(file, { kind: "proof" });
+    const isTyped = found.length > 0 || bad.some(({ typed }) => typed);
+    if (place === SENT && !lines.length && !isTyped) return Object.assign(file, { kind: "unknown", belongs: DOCUMENT });
     const from = { name: source ?? name, isSender: place === SENT };
-    if (!lines.length) file.notes.push("There is no line in it: name, step and 64 hexadecimal digits.");
-    return Object.assign(file, { kind: "lines", bad, lines: lines.map((line) => ({ ...line, from })) });
+    if (!lines.length && !isTyped) file.notes.push(size ? "There is no line in it: name, step and 64 hexadecimal digits." : "The file is empty.");
+    const belongs = place === SENT ? OWN : lines.length || isTyped || !size ? undefined : DOCUMENT, withFrom = (line) => ({ ...line, from });
+    return Object.assign(file, { kind: "lines", bad, lines: lines.map(withFrom), found: found.map(withFrom), belongs });
+}
+
+/** What is told of a document that would be something else in another field, and which one that is. */
+function strangeDocument(known, bytes, isCut) {
+    if (known) return { belongs: SENT, notes: ["It is a file of Timeweave itself. Is it a proof that you were sent?"] };
+    const { lines, bad } = isCut ? { lines: [], bad: [] } : readLines(bytes);
+    return lines.length && !bad.length ? { belongs: OWN, notes: ["It is a file of lines. Did you get them another way?"] } : {};
 }
 
 /** Reads the front of a file: no proof and no good file of lines is longer than that. */
@@ -32,6 +47,21 @@ export async function takeFile(blob, name, place) {
     const bytes = new Uint8Array(await blob.slice(0, MOST_BYTES).arrayBuffer());
     return readFile({ name, size: blob.size, blob, bytes, place });
 }
+
+/** What a document is to the events of an accepted report: as matchFile says, or `unread` where its digest isn't known. */
+export function documentBeside({ events }, { name, digest, fault }) {
+    return fault ? { match: "unread", places: [] } : matchFile(events.map(({ data }) => readRecorded(data)), digest, name, events.map(({ data }) => wholeDigest(data)));
+}
+
+const isThatFile = ({ match }) => match === "same" || match === "renamed";
+
+/** What the documents are to a judgement of a proof of events, each {document, match, places}; of another one none. */
+export function besideDocuments({ report, documents = [] }) {
+    return report?.events.length ? documents.map((document) => ({ document, ...documentBeside(report, document) })) : [];
+}
+
+/** Those of them whose file was recorded; none where it isn't any of them. */
+export const filesRecorded = (judged) => besideDocuments(judged).filter(isThatFile);
 
 const isSame = (a, b) => a.place === b.place && a.name === b.name && a.size === b.size && a.bytes.every((byte, at) => byte === b.bytes[at]);
 
@@ -64,6 +94,13 @@ function judgeEvidence(timeweave, evidence) {
     return (anchors) => proofs.map((proof) => timeweave.judge(proof, anchors)).find(({ text }) => askedFor(text)) ?? timeweave.ask("timeweave_checkfork", evidence, anchors);
 }
 
+/** The lines of yours that a proof carries, and its report without these: each of them binds its hop as any other line does. */
+function withHeld(report, own) {
+    const isYours = (thread) => heldAs(thread, own) === "the same";
+    const held = report.carried.filter(isYours).map((thread) => own.find((line) => areOfOneStep(line, thread)));
+    return { held, report: held.length ? { ...report, carried: report.carried.filter((thread) => !isYours(thread)) } : report };
+}
+
 /** The kinds of reports on what a service received. */
 const ON_RECEIVING = ["thread", "absent", "map"];
 
@@ -76,9 +113,15 @@ function withReceiver(timeweave, report, evidence, anchors) {
 
 const areOfOneStep = (one, other) => one.service === other.service && one.step === other.step;
 
-/** The steps that accepted files open: one of each proof or low map file, and of evidence that of each of its proofs. */
-const openedSteps = (timeweave, call, files) => (call === "timeweave_checkfork" ? proofsIn(timeweave, files[0].bytes) : files.map(({ bytes }) => bytes))
-    .map(openedStep).filter((it) => it !== null);
+/**
+ * What accepted files show besides what their report tells, of evidence each of its proofs: {told, passed}. Of whom evidence accuses its trees tell one history of
+ * two, which says nothing.
+ */
+function shownIn(timeweave, call, files, report) {
+    const shown = (call === "timeweave_checkfork" ? proofsIn(timeweave, files[0].bytes) : files.map(({ bytes }) => bytes)).map(shownBy);
+    const accused = report.fork?.first.thread.service;
+    return { told: shown.flatMap(({ told }) => told).filter(({ service }) => service !== accused), passed: shown.flatMap(({ passed }) => passed) };
+}
 
 /** Whether a line is of a step that a map may show as received: that of the peer at its lower bound; its own, and at an upper bound each later one. */
 function isOfMap({ service, step, peer, low, high }, line) {
@@ -88,19 +131,77 @@ function isOfMap({ service, step, peer, low, high }, line) {
 /** Whether a line is a third one of the step of which evidence shows two: neither thread, as the page sees them. */
 const isThird = ({ first, second }, line) => areOfOneStep(first.thread, line) && ![first, second].some(({ thread }) => thread.authenticator === line.authenticator);
 
+/** The line of yours under which what a file shows of this line's service by its paths is so; none of a service of which something is carried. */
+export function lineUnder({ carried }, anchors, { service }) {
+    return carried.some((it) => it.service === service) ? undefined : anchors.find((it) => it.service === service && !it.from.isSender);
+}
+
 /**
- * The lines of yours of a step of which accepted files tell no authenticator: `others`, of which the verifier says that they aren't of the history of a step that
- * is opened, and `unheld`, of which that isn't known.
+ * The lines of yours of a step of which the report tells no authenticator: `others`, which aren't those that the files have, or of which the verifier says that
+ * they aren't of the history of a step that is passed, each with the one of yours under which that is so, where there is one; and `unheld`, of which that isn't known.
  */
-function linesBeside(timeweave, report, opened, { own, anchors }) {
-    const known = [...anchors, ...toldLines(report)], text = anchorsText(anchors), shown = [...opened, ...report.events, ...report.hops];
+function linesBeside(timeweave, report, { told, passed }, { own, anchors }) {
+    const known = [...anchors, ...toldLines(report)], shown = [...told, ...passed, ...report.events, ...report.hops];
     const isTold = (line) => (report.map !== undefined && isOfMap(report.map, line)) || (report.fork !== undefined && isThird(report.fork, line));
     const isShown = (line) => isTold(line) || shown.some((it) => areOfOneStep(it, line));
     const beside = own.filter((line) => isShown(line) && !known.some((it) => areOfOneStep(it, line)));
-    const answersTo = (line) => opened.filter((it) => areOfOneStep(it, line)).map((it) => timeweave.judge(linkTo(it, line), text).status);
-    const answers = beside.map(answersTo), isOther = (_, at) => answers[at].includes(REJECTED);
-    const isHeld = (_, at) => answers[at].length > 0 && answers[at].every((status) => status === ACCEPTED);
-    return { others: beside.filter(isOther), unheld: beside.filter((line, at) => !isOther(line, at) && !isHeld(line, at)) };
+    const textOf = ({ under }) => anchorsText(under ? [under] : anchors);
+    const answersTo = (line) => [
+        ...told.filter((it) => areOfOneStep(it, line)).map(({ authenticator, isReceived }) => ({ status: authenticator === line.authenticator ? ACCEPTED : REJECTED, isReceived })),
+        ...passed.filter((it) => areOfOneStep(it, line)).map((it) => ({ status: timeweave.judge(linkTo(it, line), textOf(it)).status })),
+    ];
+    const answers = beside.map(answersTo), isOther = (_, at) => answers[at].some(({ status }) => status === REJECTED);
+    const isHeld = (_, at) => answers[at].length > 0 && answers[at].every(({ status }) => status === ACCEPTED);
+    const isOfPath = (at) => answers[at].some(({ status, isReceived }) => status === REJECTED && !isReceived);
+    const others = beside.map((line, at) => ({ ...line, ...(isOfPath(at) ? { under: lineUnder(report, anchors, line) } : {}) }));
+    return { others: others.filter(isOther), unheld: beside.filter((line, at) => !isOther(line, at) && !isHeld(line, at)) };
+}
+
+/** How a digest may have been meant that was typed wrong: with another digit at one place, or with two neighbours the other way round. */
+function* meantDigests(digest) {
+    for (let at = 0; at < digest.length; at++) {
+        for (const digit of "0123456789abcdef") if (digit !== digest[at]) yield digest.slice(0, at) + digit + digest.slice(at + 1);
+        if (at + 1 < digest.length && digest[at] !== digest[at + 1]) yield digest.slice(0, at) + digest[at + 1] + digest[at] + digest.slice(at + 2);
+    }
+}
+
+/** Whether an answer is an acceptance, or tells a reason that comes behind a path of this part: so that path is right. */
+function isBetter(text, part) {
+    const [, number, name, place] = /^rejected (\d+) (\w+) ?(\d*)/.exec(text) ?? [];
+    return text.startsWith("accepted ") || (name === "BadPath" ? Number(place) > part : Number(number) > 4);
+}
+
+/**
+ * The line of yours under which a proof isn't accepted, and that would be the one that it needs were one digit of it another: {slip: {line, slip}}; else nothing. Nobody
+ * can make a proof for which that is so of a line that was typed rightly.
+ */
+function slipIn(ask, { answer, anchors }) {
+    const part = / BadPath (\d+)\n$/.exec(answer.text)?.[1];
+    for (const line of part === undefined ? [] : anchors.filter(({ from }) => !from.isSender)) {
+        for (const authenticator of meantDigests(line.authenticator)) {
+            const { text } = ask(anchorsText(anchors.map((it) => (it === line ? { ...line, authenticator } : it))));
+            if (isBetter(text, Number(part))) return { slip: { line, slip: findSlip(line.authenticator, authenticator) } };
+        }
+    }
+    return {};
+}
+
+/**
+ * Of lines that accepted files tell, each with the place of its file, those that the verifier says aren't of the history of a step that another file's path passes, as
+ * `twoLines` has them: of that step the other file tells no authenticator.
+ */
+function twoHistories(timeweave, accepted, told) {
+    const found = new Map();
+    for (const [first, one] of told) {
+        for (const [second, { shown, anchors }] of accepted.entries()) {
+            const pair = [first, second].sort((a, b) => a - b).join(" ");
+            if (first === second || found.has(pair)) continue;
+            const passed = (shown?.passed ?? []).filter((it) => areOfOneStep(it, one));
+            const isOther = passed.some((it) => timeweave.judge(linkTo(it, one), anchorsText(it.under ? [it.under] : anchors)).status === REJECTED);
+            if (isOther) found.set(pair, { first, second, one, other: { ...one, authenticator: "another one" } });
+        }
+    }
+    return [...found.values()];
 }
 
 /** What is held at one time. An example is one of its own, so that its files never mix with a user's. */
@@ -133,7 +234,7 @@ export class Session {
 
     ofKind = (kind) => this.files.filter((file) => file.kind === kind);
 
-    /** What is judged: {call, files}, of proofs, of evidence, and of each low and high map file that belong together; one without another is alone. */
+    /** What is judged: {call, files}, of proofs, of evidence, and of each low and high map file that belong together; one without another is alone. And what no function judges. */
     get subjects() {
         const maps = this.ofKind("map").map((file) => ({ file, of: mapOf(file.bytes) })), pairs = [];
         const isOther = (a, b) => !b.of.isLow && a.of.service === b.of.service && a.of.step === b.of.step && a.of.peer === b.of.peer;
@@ -144,6 +245,8 @@ export class Session {
             ...pairs.map((files) => ({ call: "timeweave_checkmap", files })),
             ...alone.map((file) => ({ call: "timeweave_checkmap", files: [file], isAlone: true })),
             ...this.ofKind("evidence").map((file) => ({ call: "timeweave_checkfork", files: [file] })),
+            ...this.ofKind("history").map((file) => ({ isHistory: true, files: [file] })),
+            ...this.ofKind("unknown").map((file) => ({ isUnknown: true, files: [file] })),
         ];
     }
 
@@ -158,7 +261,8 @@ export class Session {
      * `lacks` where the module has no such function, or the `fault` of a trap. Where a file contradicts itself, `refuted` in the place of a report.
      */
     judge(timeweave, subject) {
-        const { call, files } = subject, own = this.linesAt(OWN), judged = { ...subject, file: files[0], own: linesThatCount(own, this.chosen), anchors: [] };
+        const { call, files } = subject, own = this.linesAt(OWN), judged = { ...subject, file: files[0], own: linesThatCount(own, this.chosen), anchors: [], documents: this.ofKind("document") };
+        if (subject.isUnknown || subject.isHistory) return judged;
         if (!timeweave.has(call)) return { ...judged, lacks: true };
         if (subject.isAlone) return judged;
         const pick = pickBy({ own, sent: this.linesAt(SENT), counted: this.counted, chosen: this.chosen }), bytes = files.map((file) => file.bytes);
@@ -166,12 +270,13 @@ export class Session {
             const ask = call === "timeweave_checkfork" ? judgeEvidence(timeweave, bytes[0]) : (anchors) => timeweave.ask(call, ...bytes, anchors);
             const found = chooseLines(ask, pick), text = anchorsText(found.anchors);
             if (found.missing) found.answer = timeweave.ask(call, ...bytes, text);
-            if (found.answer.status !== ACCEPTED) return { ...judged, ...found };
+            if (found.answer.status !== ACCEPTED) return { ...judged, ...found, ...slipIn(ask, found) };
             const strict = call === "timeweave_verify" ? { strict: timeweave.ask("timeweave_strict", ...bytes, text) } : {};
             const report = READ[call](found.answer.text, files), refuted = this.refuted(timeweave, report, files, found.anchors);
             if (refuted) return { ...judged, ...found, ...strict, refuted };
-            const beside = linesBeside(timeweave, report, openedSteps(timeweave, call, files), { ...judged, ...found });
-            return { ...judged, ...found, ...strict, ...beside, report: withReceiver(timeweave, report, bytes[0], text) };
+            const { held, ...bound } = withHeld(report, judged.own);
+            const shown = shownIn(timeweave, call, files, report), beside = linesBeside(timeweave, report, shown, { ...judged, ...found });
+            return { ...judged, ...found, ...strict, ...beside, shown, held, report: withReceiver(timeweave, bound.report, bytes[0], text) };
         } catch (fault) {
             return { ...judged, fault };
         }
@@ -185,9 +290,11 @@ export class Session {
         const accepted = judgements.filter(({ report }) => report), brokenRules = this.brokenRules(timeweave, judgements);
         const broken = new Set([...brokenRules.map(({ told }) => told.service), ...judgements.filter(({ refuted }) => refuted).map(({ refuted }) => refuted.service)]);
         const counts = ({ received }, line) => !received || !broken.has(received.service) || line.service === received.service;
-        const told = accepted.flatMap(({ report, anchors }, place) => [...anchors, ...toldLines(report).filter((line) => counts(report, line))].map((line) => [place, line]));
-        const found = twoLines(told).map((two) => ({ first: accepted[two.first].file, second: accepted[two.second].file, two, anchors: [] }));
-        return [...found, ...brokenRules];
+        const mayTell = ({ kind }) => !broken.size || !ON_RECEIVING.includes(kind);
+        const told = accepted.flatMap(({ report, anchors, held = [], shown }, place) =>
+            [...anchors, ...held, ...toldLines(report).filter((line) => counts(report, line)), ...(shown && mayTell(report) ? shown.told : [])].map((line) => [place, line]));
+        const found = [...twoLines(told), ...twoHistories(timeweave, accepted, told)];
+        return [...found.map((two) => ({ first: accepted[two.first].file, second: accepted[two.second].file, two, anchors: [] })), ...brokenRules];
     }
 
     /** What the verifier says that an accepted file on what a service received contradicts itself; else nothing. */
@@ -199,6 +306,18 @@ export class Session {
     /** The accepted files on what a service received, each with its anchors. */
     onReceiving = (judgements) => judgements.filter(({ report }) => report && ON_RECEIVING.includes(report.kind))
         .flatMap(({ files, anchors }) => files.map((file) => ({ file, anchors })));
+
+    /**
+     * The documents of which no judgement tells: {document, proofs}, what became of the proofs that are there: one of an event is `accepted`, and of another document; or
+     * one is `unjudged`, or all were `refused`; nothing where none is there.
+     */
+    strayDocuments(judgements) {
+        const onEvents = judgements.filter(({ report }) => report?.events.length), isTold = onEvents.some((judged) => !filesRecorded(judged).length);
+        const isFound = (document) => onEvents.some((judged) => filesRecorded(judged).some((it) => it.document === document));
+        const others = judgements.filter(({ call, report }) => call === "timeweave_verify" && !report), isUnjudged = others.some(({ missing, fault, lacks }) => missing || fault || lacks);
+        const proofs = onEvents.length ? "accepted" : isUnjudged ? "unjudged" : others.length ? "refused" : undefined;
+        return isTold ? [] : this.ofKind("document").filter((it) => !isFound(it)).map((document) => ({ document, proofs }));
+    }
 
     /** How many of these aren't held against the others, since they are too many. */
     uncompared = (judgements) => Math.max(0, this.onReceiving(judgements).length - MOST_COMPARED);

@@ -11,7 +11,8 @@ import subprocess
 import time
 from pathlib import Path
 
-SECONDS = 180
+# How long a browser is waited for, which others may leave little of the machine.
+SECONDS = 300
 
 
 class Failed(Exception):
@@ -41,6 +42,22 @@ class Browser:
 
     def click(self, selector):
         self.value(f"document.querySelector({json.dumps(selector)}).click()")
+
+    def kill(self):
+        """Ends it at once."""
+        self.child.kill()
+        self.child.wait(SECONDS)
+
+    def __enter__(self):
+        return self
+
+    def __exit__(self, kind, *_):
+        try:
+            if kind is None:
+                self.close()
+        finally:
+            if self.child.poll() is None:
+                self.kill()
 
 
 class Chromium(Browser):
@@ -84,6 +101,9 @@ class Chromium(Browser):
                 if "error" in answer:
                     raise Failed(f"{method}: {answer['error']}")
                 return answer["result"]
+
+    def forget(self):
+        self.asked.clear()
 
     def note(self, message):
         """Keeps what the page asked for, what it threw, and what its policy refused."""
@@ -146,27 +166,52 @@ class Firefox(Browser):
     """A headless Firefox."""
 
     name = "firefox-esr"
+    # No connection: all that isn't on this machine goes to a proxy that isn't there. The port is one that is free, of which the profile tells.
+    SETTINGS = {
+        "marionette.port": 0, "network.proxy.type": 1, "network.proxy.http": "127.0.0.1", "network.proxy.http_port": 9, "network.proxy.ssl": "127.0.0.1", "network.proxy.ssl_port": 9,
+        "network.proxy.allow_hijacking_localhost": True,
+    }
+    # Keeps what a page of a file asks for beside files, and each fault of a script or of the policy that is told of such a page.
+    NOTING = """
+        globalThis.asked = [];
+        globalThis.noting = { observe(it) {
+            const channel = it.QueryInterface(Ci.nsIHttpChannel), by = channel.loadInfo?.triggeringPrincipal?.spec ?? "";
+            if (by.startsWith("file:")) asked.push(channel.URI.spec.slice(0, 200));
+        } };
+        globalThis.hearing = { observe(it) {
+            if (it instanceof Ci.nsIScriptError && it.sourceName.startsWith("file:") && !(it.flags & Ci.nsIScriptError.warningFlag)) asked.push(it.errorMessage.slice(0, 300));
+        } };
+        Services.obs.addObserver(noting, "http-on-modify-request");
+        Services.console.registerListener(hearing);
+    """
 
     def __init__(self, folder):
         profile = Path(folder) / "firefox"
         profile.mkdir()
-        with socket.socket() as free:
-            free.bind(("127.0.0.1", 0))
-            port = free.getsockname()[1]
-        settings = {"marionette.port": port, "network.proxy.type": 1, "network.proxy.http": "127.0.0.1", "network.proxy.http_port": 9, "network.proxy.ssl": "127.0.0.1", "network.proxy.ssl_port": 9}
-        (profile / "user.js").write_text("".join(f"user_pref({json.dumps(name)}, {json.dumps(value)});\n" for name, value in settings.items()))
-        words = ["firefox-esr", "--headless", "--no-remote", "--marionette", "--profile", str(profile)]
+        (profile / "user.js").write_text("".join(f"user_pref({json.dumps(name)}, {json.dumps(value)});\n" for name, value in self.SETTINGS.items()))
+        words = ["firefox-esr", "--headless", "--no-remote", "--marionette", "--remote-allow-system-access", "--profile", str(profile)]
         self.child = subprocess.Popen(words, stdout=subprocess.DEVNULL, stderr=subprocess.DEVNULL, env={**os.environ, "HOME": str(folder), "MOZ_HEADLESS": "1"})
-        self.stream, self.count, self.asked = self.connect(port).makefile("rwb"), 0, []
+        try:
+            self.begin(profile)
+        except BaseException:
+            self.kill()
+            raise
+
+    def begin(self, profile):
+        """Connects to the browser, and says how it is to behave."""
+        self.stream, self.count = self.connect(profile / "MarionetteActivePort").makefile("rwb"), 0
         self.receive()
         self.call("WebDriver:NewSession", capabilities={"alwaysMatch": {"unhandledPromptBehavior": "dismiss"}})
+        self.call("WebDriver:SetTimeouts", script=1000 * SECONDS, pageLoad=1000 * SECONDS)
+        self.inside(self.NOTING)
 
-    def connect(self, port):
+    def connect(self, told):
+        """The connection to the port that the browser tells in a file of its profile."""
         end = time.monotonic() + SECONDS
         while True:
             try:
-                return socket.create_connection(("127.0.0.1", port), timeout=SECONDS)
-            except OSError:
+                return socket.create_connection(("127.0.0.1", int(told.read_text())), timeout=SECONDS)
+            except (OSError, ValueError):
                 if time.monotonic() > end or self.child.poll() is not None:
                     raise
                 time.sleep(0.1)
@@ -174,8 +219,15 @@ class Firefox(Browser):
     def receive(self):
         size = b""
         while not size.endswith(b":"):
-            size += self.stream.read(1)
-        return json.loads(self.stream.read(int(size[:-1])))
+            size += self.read(1)
+        return json.loads(self.read(int(size[:-1])))
+
+    def read(self, count):
+        """So many bytes of what the browser says."""
+        found = self.stream.read(count)
+        if len(found) < count:
+            raise Failed("the browser has ended")
+        return found
 
     def call(self, method, **fields):
         self.count += 1
@@ -187,6 +239,21 @@ class Firefox(Browser):
             raise Failed(f"{method}: {json.dumps(error)[:500]}")
         return result
 
+    def inside(self, script):
+        """Runs a script with the rights of the browser itself, and answers what it does."""
+        self.call("Marionette:SetContext", value="chrome")
+        try:
+            return self.call("WebDriver:ExecuteScript", script=script, args=[], newSandbox=False, sandbox="system")["value"]
+        finally:
+            self.call("Marionette:SetContext", value="content")
+
+    @property
+    def asked(self):
+        return self.inside("return globalThis.asked")
+
+    def forget(self):
+        self.inside("Services.console.reset(); globalThis.asked.length = 0")
+
     def value(self, expression):
         return self.call("WebDriver:ExecuteScript", script=f"return ({expression})", args=[], newSandbox=False)["value"]
 
@@ -197,13 +264,40 @@ class Firefox(Browser):
         found = self.call("WebDriver:FindElement", using="css selector", value=selector)["value"]
         self.call("WebDriver:ElementSendKeys", id=next(iter(found.values())), text="\n".join(str(Path(path).resolve()) for path in paths))
 
+    def drop(self, selector, paths):
+        """Drops files on an element: those that were chosen for a field that is there for that alone."""
+        self.value("(() => { const it = document.createElement('input'); Object.assign(it, { id: 'dropped', type: 'file', multiple: true }); document.body.append(it); return 1; })()")
+        self.choose("#dropped", paths)
+        self.value(f"""(() => {{
+            const from = document.querySelector("#dropped"), dataTransfer = new DataTransfer(), on = document.querySelector({json.dumps(selector)});
+            for (const file of from.files) dataTransfer.items.add(file);
+            from.remove();
+            for (const kind of ["dragenter", "dragover", "drop"]) on.dispatchEvent(new DragEvent(kind, {{ bubbles: true, cancelable: true, dataTransfer }}));
+            return 1;
+        }})()""")
+
+    def press(self, key, code=0, text=None):
+        """Presses a key: of WebDriver's own letters for keys that write nothing, Tab is known alone."""
+        letter = {"Tab": "\ue004"}.get(key, text or key)
+        keys = [{"type": kind, "value": letter} for kind in ("keyDown", "keyUp")]
+        self.call("WebDriver:PerformActions", actions=[{"type": "key", "id": "keys", "actions": keys}])
+
     def shape(self, width, height=900, dark=False):
-        self.call("WebDriver:SetWindowRect", width=width, height=height)
+        # (a window can't be as narrow as a page of it)
+        wide = "".join(f"it.style.setProperty('{edge}', '{size}px'); " for kind, size in (("width", width), ("height", height)) for edge in (kind, f"min-{kind}", f"max-{kind}"))
+        self.inside(f'Services.prefs.setIntPref("layout.css.prefers-color-scheme.content-override", {0 if dark else 1}); const it = gBrowser.selectedBrowser; {wide}')
+        self.wait(f"innerWidth === {width}")
 
     def picture(self, path, width, dark=False, selector="html"):
-        self.shape(width)
+        self.shape(width, dark=dark)
         time.sleep(0.3)
-        Path(path).write_bytes(base64.b64decode(self.call("WebDriver:TakeScreenshot", full=True)["value"]))
+        found = self.call("WebDriver:FindElement", using="css selector", value=selector)["value"]
+        which = {"full": True} if selector == "html" else {"id": next(iter(found.values())), "full": False}
+        Path(path).write_bytes(base64.b64decode(self.call("WebDriver:TakeScreenshot", **which)["value"]))
+
+    def print(self, path):
+        """Prints the page."""
+        Path(path).write_bytes(base64.b64decode(self.call("WebDriver:Print", page={"width": 21.0, "height": 29.7})["value"]))
 
     def close(self):
         self.call("Marionette:Quit", flags=["eForceQuit"])

@@ -2,6 +2,7 @@ import assert from "node:assert/strict";
 import { readFileSync } from "node:fs";
 import { test } from "node:test";
 import { anchorsText, chooseLines, contradicted, contradictions, heldAs, linesThatCount, pickBy, readLines, twoLines } from "../page/lines.mjs";
+import { missingWords } from "../page/words.mjs";
 
 const A = "a".repeat(64), B = "b".repeat(64);
 const line = (service, step, authenticator = A) => ({ service, step, authenticator });
@@ -18,13 +19,26 @@ test("bytes are read as UTF-8, with or without a mark, and as UTF-16 by its mark
     for (const bytes of [new TextEncoder().encode(text), new TextEncoder().encode(`\ufeff${text}`), wide(false), wide(true)]) assert.equal(readLines(bytes).lines.length, 1);
 });
 
+test("lines are taken as weft keeps them, with the day and how they came; those that were seen to contradict each other do, and one that came by a key alone is found alone", () => {
+    const kept = readLines(`shop 2 ${A} 2026-11-29T09:40:00Z by mail from Anna\nbank 1 ${A} 2026-11-29T09:40:00Z\nport 3 ${B} 2026-11-29T09:40:00Z signed by anna SHA256:${"x".repeat(43)}\n`);
+    assert.deepEqual(kept.lines.map(({ service, step, day, how }) => [service, step, day, how]), [["shop", 2, "2026-11-29", "by mail from Anna"], ["bank", 1, "2026-11-29", ""]]);
+    assert.deepEqual([kept.found.map(plain), kept.bad], [[["port", 3, B, 3]], []]);
+    assert.deepEqual(readLines(kept.found.map(({ service, step, authenticator, how }) => `${service} ${step} ${authenticator} 2026-11-29T09:40:00Z ${how}`).join("\n")).lines, []);
+    for (const mark of ["contradiction", "chosen"]) {
+        const { lines } = readLines(`shop 2 ${A} 2026-11-29T09:40:00Z by mail\n${mark}: shop 2 ${A} ${B} 2026-11-30T09:40:00Z\n`);
+        assert.deepEqual(contradictions(lines).map(({ service, step, lines: each }) => [service, step, each.length]), [["shop", 2, 2]]);
+    }
+    for (const behind of ["FALSE, never use it", "2026-11-29 by mail", "by mail 2026-11-29T09:40:00Z"]) assert.deepEqual(readLines(`shop 2 ${A} ${behind}`).lines, [], behind);
+});
+
 test("a line that is none is told with its number and why", () => {
-    const given = ["", "Shop 2 " + A, `shop 02 ${A}`, `shop 2  ${A}`, `shop 2 ${A}a`, `shop -1 ${A}`, `${"s".repeat(17)} 1 ${A}`, `shop 0 ${A}`, `shop 1099511627776 ${A}`, "<b>shop</b>"];
-    const { lines, bad } = readLines(given.join("\n"));
-    assert.equal(lines.length, 0);
-    assert.deepEqual(bad.map(({ number }) => number), [2, 3, 4, 5, 6, 7, 8, 9, 10]);
-    assert.match(bad[6].why, /step 0/);
-    assert.match(bad[7].why, /at most 1099511627775/);
+    const alone = [`shop 02 ${A}`, `shop -1 ${A}`, `${"s".repeat(17)} 1 ${A}`, `shop 1099511627776 ${A}`], given = ["", `shop 2 ${A}a`, ...alone, `shop 0 ${A}`, "<b>shop</b>"];
+    const { lines, bad } = readLines(given.join("\n")), other = readLines(alone.join("\n"));
+    assert.deepEqual([lines, bad.map(({ number }) => number), bad.map(({ typed }) => typed?.fault)], [[], [2, 3, 4, 5, 6, 7], ["digits long", ...Array(4).fill("digits alone"), undefined]]);
+    assert.match(bad[5].why, /step 0/);
+    assert.deepEqual(other.bad.map(({ number }) => number), [1, 2, 3, 4]);
+    assert.match(other.bad[3].why, /at most 1099511627775/);
+    assert.deepEqual(readLines(["Shop 2 " + A, `shop 3  ${A}`].join("\n")).lines.map(plain), [["shop", 2, A, 1], ["shop", 3, A, 2]]);
 });
 
 test("lines of one service and step with different authenticators contradict each other; equal ones and other steps don't", () => {
@@ -51,6 +65,14 @@ test("of many lines those are held that the verifier asks for, and no other", ()
 test("a line that isn't there is told, with those that were held before", () => {
     const { answer, anchors, missing } = chooseLines(wanting("b 7", "a 2"), pickBy({ ...none, own: [line("b", 7)] }));
     assert.deepEqual([answer.text, anchorsText(anchors), missing], ["rejected 3 NotHeld a 2\n", `b 7 ${A}\n`, { service: "a", step: 2, offered: [] }]);
+});
+
+test("all lines that are missing are told at once, with what the sender offers of each", () => {
+    const sent = [line("c", 3)], { missing, anchors } = chooseLines(wanting("b 7", "a 2", "c 3", "d 1"), pickBy({ ...none, own: [line("a", 2)], sent }));
+    assert.deepEqual([anchorsText(anchors), missing], ["", { service: "b", step: 7, offered: [], others: [{ service: "c", step: 3, offered: sent }, { service: "d", step: 1, offered: [] }] }]);
+    const { sentence, todo } = missingWords(missing, []);
+    assert.equal(sentence, "The line of step 7 of b is missing. The line of step 3 of c is missing. Only the sender gave you one. The line of step 1 of d is missing.");
+    assert.match(todo, /neither b nor whoever.* neither c nor whoever.* neither d nor whoever.*A line that you get only now shows nothing about the time before\.$/);
 });
 
 test("a sender's line counts only once it is said so, and none of yours is passed over for it", () => {

@@ -65,7 +65,7 @@ def authenticator_of(line):
 def other_line(line):
     """A line of the same service and step with another authenticator."""
     name, step, hexed = line.split()
-    return f"{name} {step} {'0' if hexed[0] != '0' else '1'}{hexed[1:]}\n"
+    return f"{name} {step} {hexed[::-1]}\n"
 
 
 def make_kinds(made):
@@ -77,7 +77,8 @@ def make_kinds(made):
     made.lines["shop 2"] = made.lines["shop"]
     made.receive("registry", "shop")
     made.append("registry", "entry of the registry")
-    made.append("shop", "paid")
+    made.append("shop", "paid", "f942d248a81932a858edb9a38e425ccf6042e8323587c4f74272765e4d131234  ./sold")
+    made.prove("sold.proof", "shop", "event", 3, 1)
     made.prove("record.proof", "shop", "event", 1, 1)
     made.prove("old-record.proof", "shop", "event", 1, 1, 2)
     for index, name in enumerate(("markup", "binary", "turned", "foreign")):

@@ -13,18 +13,23 @@ import subprocess
 import sys
 import tempfile
 import time
+import zlib
 from pathlib import Path
 
 sys.path.insert(0, str(Path(__file__).resolve().parent))
 
-from browsers import Chromium, Failed, Firefox, is_there  # noqa: E402
+from browsers import SECONDS, Chromium, Failed, Firefox, is_there  # noqa: E402
 from made import MARKUP, MOST_HOPS, TOP, all_made, authenticator_of, other_line  # noqa: E402
+
+sys.path.insert(0, str(TOP / "examples"))
+
+from ten_cases import CASES, make_case, make_world  # noqa: E402
 
 PAGE = TOP / "web/timeweave.html"
 BROWSERS = {"chromium": Chromium, "firefox": Firefox}
 
-# The most milliseconds from opening the page to the first verdict.
-MOST_MILLISECONDS = 300
+# Ten times what it may take from opening the page to the first verdict, and until a file of 200 MB is told of: asserted where the machine is idle, and nowhere else.
+MOST_MILLISECONDS, MOST_SECONDS = 3000, 10
 
 
 class Wrong(Exception):
@@ -44,7 +49,7 @@ class Page:
 
     def fresh(self):
         """Opens it anew."""
-        self.browser.asked.clear()
+        self.browser.forget()
         self.browser.open(PAGE)
         return self
 
@@ -53,12 +58,28 @@ class Page:
         self.browser.wait(f"document.querySelectorAll('#digests tbody tr').length === {number} && document.querySelector('#progress').textContent === ''")
         self.browser.wait("document.querySelectorAll('.held li').length > 0 && [...document.querySelectorAll('#digests code')].every(it => it.textContent !== 'being computed')")
 
+    def judged_after(self, work):
+        """Does what has all judged anew, and waits until it is."""
+        count = "performance.getEntriesByName('judged').length"
+        before = self.browser.value(count)
+        work()
+        self.browser.wait(f"{count} > {before}")
+        return self
+
     def give(self, place, *names):
         """Chooses files for a field, and waits for what comes of it."""
         there = self.browser.value("document.querySelectorAll('#digests tbody tr').length")
-        self.browser.choose(f"#{place}-files", [self.made.path(name) for name in names])
+        self.judged_after(lambda: self.browser.choose(f"#{place}-files", [self.made.path(name) for name in names]))
         self.settle(there + len(names))
         return self
+
+    def click(self, selector):
+        """Clicks on what has all judged anew, and waits until it is."""
+        return self.judged_after(lambda: self.browser.click(selector))
+
+    def drop(self, selector, *names):
+        """Drops files on a field, and waits for what comes of it."""
+        return self.judged_after(lambda: self.browser.drop(selector, [self.made.path(name) for name in names]))
 
     def text(self, selector="#verdicts"):
         return self.browser.text(selector)
@@ -89,21 +110,19 @@ def accepted_record(page):
     """a record is accepted, told in a sentence and by the program's text, with the line that counted and where it is from"""
     page.fresh().give("sent", "record.proof").give("own", "shop.lines")
     page.is_as_told("record.proof", page.made.lines["shop"])
-    page.says("Shown", "shop recorded in its step 1, as event 0: milk.", "claims the time 2023-11-14 22:13:20 UTC", page.made.lines["shop"].strip(), "got another way: shop.lines, line 1")
+    page.says("Shown", "shop recorded in its step 1, as event 1: milk.", "claims the time 2023-11-14 22:13:20 UTC", page.made.lines["shop"].strip(), "got another way: shop.lines, line 1")
 
 
 def files_dropped(page):
     """files that are dropped are taken as chosen ones are; beside the fields they are told where to go"""
-    if not hasattr(page.browser, "drop"):
-        return
     page.fresh()
-    page.browser.drop("#sent", [page.made.path("bound.proof")])
+    page.drop("#sent", "bound.proof")
     page.settle(1)
-    page.browser.drop("#own", [page.made.path("both.lines")])
+    page.drop("#own", "both.lines")
     page.settle(2)
     page.is_as_told("bound.proof", page.made.lines["shop"] + page.made.lines["registry"])
     page.browser.drop("h1", [page.made.path("record.proof")])
-    page.browser.wait("document.querySelector('#progress').textContent.startsWith('Drop the files on one of the two fields')")
+    page.browser.wait("document.querySelector('#progress').textContent.startsWith('Drop the files on one of the three fields')")
     check(page.browser.value("document.querySelectorAll('#digests tbody tr').length") == 2, "a file that was dropped beside the fields was taken")
 
 
@@ -116,8 +135,8 @@ def one_by_one(page):
     page.made.put("registry.lines", page.made.lines["registry"])
     page.give("own", "registry.lines")
     check(page.titles() == ["✔ Shown"], str(page.titles()))
-    page.browser.click("[aria-label='Remove registry.lines']")
-    page.browser.wait("document.querySelector('.verdict h3').textContent.includes('Not judged')")
+    page.click("[aria-label='Remove registry.lines']")
+    check(page.titles() == ["? Not judged"], str(page.titles()))
     page.give("sent", "old-record.proof")
     page.says("Or ask for the proof under a step of shop that you hold a line of: 3")
 
@@ -126,7 +145,7 @@ def all_kinds(page):
     """each kind of proof has its sentence, its exact text and its picture"""
     both = page.made.lines["registry"], page.made.lines["shop"]
     for file, lines, sentence in (
-        ("record.proof", both[1], "shop recorded in its step 1, as event 0: milk."),
+        ("record.proof", both[1], "shop recorded in its step 1, as event 1: milk."),
         ("bound.proof", "".join(both), "registry recorded in its step 2, as event 0: entry of the registry. The first came before the second."),
         ("thread.proof", both[0], "registry had received step 2 of shop, authenticator"),
         ("absent.proof", both[0], "registry had received no step 1 of shop up to its step 1, if it kept the rules"),
@@ -142,20 +161,22 @@ def on_a_word(page):
     """a thread that no line binds is told as its receiver's word, and the strict form's refusal with it"""
     page.fresh().give("sent", "word.proof").give("own", "both.lines")
     page.is_as_told("word.proof", page.made.lines["registry"])
-    page.says("Shown in part: on somebody's word", "Only registry says that step 2 of shop was so", "1 of 1 hops is carried", "rejected 8 Carried 1", "not bound")
+    check("rejected 8" not in page.text("#verdicts"), "the exact text isn't folded away")
+    page.browser.click(".exact button")
+    page.says("rejected 8 Carried 1", "What counts is the title above")
+    page.says("Shown in part: on somebody's word", "By registry's word alone: shop recorded", "Not shown: only registry says that step 2 of shop was so", "Ask whoever sent it for the same proof with links from step 2 of shop", "not bound")
 
 
 def senders_lines(page):
     """the sender's lines are grey and don't count; each counts after a click, which is told"""
     page.made.put("sent.lines", page.made.lines["shop"] + page.made.lines["registry"])
     page.fresh().give("sent", "bound.proof", "sent.lines")
-    page.says("From the sender: they prove nothing against him", selector="#sent-held")
-    page.says("Not judged", "Only the sender gave you one", "It proves nothing against him")
+    page.says("From the sender, who could have made them up: they don't check him", selector="#sent-held")
+    page.says("Not judged", "Only the sender gave you one", "who could have made it up: it doesn't check him")
     for _ in range(2):
-        page.browser.click(".verdict .sender button")
-        page.browser.wait("document.querySelector('#progress').textContent === ''")
+        page.click(".verdict .sender button")
     check(page.titles() == ["◐ Shown in part: by the sender's own lines"], str(page.titles()))
-    page.says("from the sender, in sent.lines, line 1; it counts since you said so", "2 lines that counted came from the sender: against him this proves nothing")
+    page.says("from the sender, in sent.lines, line 1; it counts since you said so", "2 lines that counted came from the sender, who could have made them up")
     page.is_as_told("bound.proof", "".join(page.made.lines[name] for name in ("registry", "shop")))
     page.give("own", "both.lines")
     check(page.titles() == ["✔ Shown"], str(page.titles()))
@@ -167,11 +188,11 @@ def contradicting_lines(page):
     page.says("Your lines of step 3 of shop contradict each other", selector="#alerts")
     page.says("Not judged", "you hold 2 different ones")
     page.browser.value("document.querySelector('#alerts label:nth-of-type(1) input').focus()")
-    page.browser.click("#alerts label:nth-of-type(1) input")
-    page.browser.wait("document.querySelector('.verdict h3').textContent.includes('Shown')")
+    page.click("#alerts label:nth-of-type(1) input")
+    check(page.titles() == ["✔ Shown"], str(page.titles()))
     check(page.browser.value("document.activeElement.type") == "radio", "who chose a line isn't at the choice any more")
-    page.browser.click("#alerts label:nth-of-type(2) input")
-    page.browser.wait("document.querySelector('.verdict h3').textContent.includes('Not shown')")
+    page.click("#alerts label:nth-of-type(2) input")
+    check("Not shown" in page.titles()[0], str(page.titles()))
     page.is_as_told("record.proof", other_line(page.made.lines["shop"]))
     page.says("It isn't of the history of your lines", "Ask others who hold lines of that service")
     page.fresh().give("own", "shop.lines").give("sent", "record.proof", "other.lines")
@@ -184,32 +205,56 @@ def shown_line_differs(page):
     page.made.put("false.lines", page.made.lines["registry"] + other_line(page.made.lines["shop 2"]))
     page.fresh().give("sent", "thread.proof").give("own", "false.lines")
     page.says("The line of step 2 of shop that you kept is another one", "two histories")
-    check(page.titles() == ["✘ Not shown: two lines"], str(page.titles()))
+    check(page.titles() == ["✘ Not shown: a line of yours contradicts the file"], str(page.titles()))
     page.made.put("true.lines", page.made.lines["registry"] + page.made.lines["shop 2"])
     page.fresh().give("sent", "thread.proof").give("own", "true.lines")
     page.says("That is the line of step 2 of shop that you kept")
 
 
 def changed_files(page):
-    """changed and cut proofs and junk are rejected with the program's text and what to do"""
+    """changed and cut proofs are rejected with the program's text and what to do"""
     for file, lines, wanted in (
         ("changed.proof", page.made.lines["shop"], "The event isn't the one of that step"),
         ("cut.proof", "", "it is cut short or was changed at byte 100"),
-        ("junk", "", "The file is no proof: it is cut short or was changed at byte 0"),
     ):
         page.fresh().give("own", "shop.lines").give("sent", file)
         page.is_as_told(file, lines)
         page.says("Not shown", wanted, "What to do:")
 
 
+def the_document(page):
+    """a document is held against what was recorded, by its digest and name, and the headline follows it; alone, or in a wrong field, it is told what is missing"""
+    page.made.put("sold", "bread\n")
+    page.made.path("forged").mkdir(exist_ok=True)
+    page.made.put("forged/sold", "bribe\n")
+    page.fresh().give("sent", "sold.proof").give("own", "shop.lines").give("document", "sold")
+    page.says("Shown", "the file sold (SHA-256 f942d248a81932a858edb9a38e425ccf6042e8323587c4f74272765e4d131234)", "sold is that file, by its digest and name.")
+    check(page.titles() == ["✔ Shown"], str(page.titles()))
+    page.says("computed by the browser", selector="#document-held")
+    page.fresh().give("sent", "sold.proof").give("own", "shop.lines").give("document", "forged/sold")
+    check(page.titles() == ["✘ Not shown: recorded, but not this file"], str(page.titles()))
+    page.says("sold is another file of the same name", "recorded: f942d248a81932a858edb9a38e425ccf6042e8323587c4f74272765e4d131234\nyours: ", "Another version of a file")
+    page.fresh().give("sent", "sold")
+    check(page.titles() == ["? Not judged"], str(page.titles()))
+    page.says("sold is no file of Timeweave", "Is it the document itself? Then its proof is missing")
+    page.click("[aria-label='It is the document: sold']")
+    page.says("isn't compared with anything: no proof of an event is here")
+    page.give("sent", "sold.proof", "shop.lines")
+    page.click("[aria-label='You got them another way: shop.lines']")
+    check(page.titles() == ["✔ Shown"], str(page.titles()))
+
+
 def what_is_no_proof(page):
     """other files of Timeweave and bad lines are told, each with the command for it or what is wrong"""
     page.fresh().give("sent", "shop.history").give("own", "bad.lines")
-    page.says("This is a whole history, and no proof", selector="#sent-held")
-    page.says("Line 1 doesn't count", "Line 3 doesn't count: the line of step 0", selector="#own-held")
+    page.says("shop.history is a whole history, and no proof, so this page doesn't judge it: `weft judge HISTORY --kept LINES` does.")
+    check(page.titles() == ["? Not judged"], str(page.titles()))
+    page.says("Line 3 doesn't count: the line of step 0", "Other words stand beside the line of step 3 of shop", selector="#own-held")
     page.give("own", "record.proof")
     page.says("it was put among what you were sent", selector="#sent-held")
-    check(page.titles() == ["✔ Shown"], str(page.titles()))
+    check(page.titles() == ["? Not judged", "? Not judged"], str(page.titles()))
+    page.click("[aria-label='Count the line of step 3 of shop']")
+    check(page.titles() == ["✔ Shown", "? Not judged"], str(page.titles()))
 
 
 def judges(page, call):
@@ -253,9 +298,28 @@ def conflicts_told(page):
     """two accepted files that contradict each other on what a service received are told before their verdicts"""
     page.fresh().give("sent", "has.proof", "lacks.proof").give("own", "keeper.lines")
     told = ["✘ Two accepted files contradict each other"] if judges(page, "contradict") else []
-    check(page.titles() == [*told, "✔ Shown", "✔ Shown"], str(page.titles()))
+    # (the second one's path passes the step of the first one's line, and has another one there)
+    check(page.titles() == [*told, "✔ Shown", "✘ Not shown: two of your lines contradict each other"], str(page.titles()))
     if told:
         page.says("By one keeper received step 3 of shop at its step 1, by the other it had received no such step up to its step 3", "it broke its rules, or it has two histories", "Against the others that they name nothing is shown", "Keep both files")
+
+
+def ten_cases(page):
+    """the cases of examples/ten_cases.py get the answers that weft gives"""
+    folder = page.made.path("ten")
+    world = make_world(page.made.program, folder / "world")
+    for case in CASES:
+        make_case(world, case, folder / case.name)
+        page.fresh()
+        if case.own:
+            page.give("own", f"ten/{case.name}/my.lines")
+        if case.document is not None:
+            page.give("document", f"ten/{case.name}/deed.txt")
+        page.give("sent", f"ten/{case.name}/{case.proof}", *[f"ten/{case.name}/sent.lines"] * bool(case.sent))
+        wanted = case.headline[0].upper() + case.headline[1:]
+        check(page.titles()[-1].split(" ", 1)[1] == wanted, f"{case.name}: {page.titles()}, and weft says {wanted!r}")
+        if wanted == "Shown":
+            page.says("got another way: my.lines, line 1, kept 2026-03-02, letter from the notary")
 
 
 def is_idle():
@@ -272,11 +336,11 @@ def timed(page, place, file, condition):
     seconds = time.monotonic() - begun
     told = page.browser.value("window.told")
     check(f"Reading 1 of 1: {file}" in told, f"no progress is told of {file}: {told}")
-    check(seconds < 1 or not is_idle(), f"{file} takes {seconds:.2f} seconds")
+    check(seconds < MOST_SECONDS or not is_idle(), f"{file} takes {seconds:.2f} seconds")
 
 
 def large_files(page):
-    """a proof and a file of lines of 200 MB and 10,000 lines are told with progress, within a second where the machine is idle; of the lines those that are needed count"""
+    """a proof and a file of lines of 200 MB and 10,000 lines are told with progress, soon where the machine is idle; of the lines those that are needed count"""
     page.fresh()
     timed(page, "sent", "huge.proof", "document.querySelector('.verdict')")
     check(page.exact() == [page.made.judged("huge.proof", "")], str(page.exact()))
@@ -333,14 +397,14 @@ def examples_stay_apart(page):
     page.fresh().give("sent", "record.proof").give("own", "shop.lines")
     for title, verdict in (("a record", "Shown"), ("what came first", "Shown"), ("on somebody's word", "Shown in part"), ("a changed proof", "Not shown")):
         number = [it.strip() for it in page.browser.value("[...document.querySelectorAll('#examples button')].map(it => it.textContent)")].index(title) + 1
-        page.browser.click(f"#examples button:nth-of-type({number})")
+        page.click(f"#examples button:nth-of-type({number})")
         page.browser.wait(f"document.querySelector('.verdict h3')?.textContent.includes('{verdict}') && document.querySelectorAll('.verdict').length === 1")
         page.says(f"Example: {title}", "Your own files are set aside", selector="#shown-example")
         check("record.proof" not in page.text("#verdicts") or title == "a record", "a file of the user stands in the example")
-    page.browser.click("#leave-example")
-    page.browser.wait("document.querySelector('#shown-example').hidden")
+    page.click("#leave-example")
+    check(page.browser.value("document.querySelector('#shown-example').hidden"), "the example is shown still")
     page.is_as_told("record.proof", page.made.lines["shop"])
-    page.browser.click("#examples button")
+    page.click("#examples button")
     page.browser.choose("#own-files", [page.made.path("both.lines")])
     page.browser.wait("document.querySelector('#shown-example').hidden && document.querySelectorAll('#digests tbody tr').length === 3")
 
@@ -350,8 +414,8 @@ def typed_lines(page):
     page.fresh().give("sent", "record.proof")
     line = page.made.lines["shop"].strip()
     page.browser.value(f"(() => {{ document.querySelector('#typing').open = true; document.querySelector('#typed').value = '{line}'; document.querySelector('#typed-from').value = 'the gazette'; return 1; }})()")
-    page.browser.click("#add-typed")
-    page.browser.wait("document.querySelector('.verdict h3').textContent.includes('Shown')")
+    page.click("#add-typed")
+    check(page.titles() == ["✔ Shown"], str(page.titles()))
     page.says("got another way: typed, the gazette, line 1")
 
 
@@ -365,14 +429,13 @@ def digests_shown(page):
 def keyboard_alone(page):
     """all of it is reached by the keyboard, in the order of the page, and named for a screen reader"""
     page.fresh().give("sent", "record.proof").give("own", "shop.lines")
-    if hasattr(page.browser, "press"):
-        page.browser.value("(document.activeElement?.blur(), window.reached = [], 1)")
-        for _ in range(16):
-            page.browser.press("Tab", 9)
-            page.browser.value("window.reached.push(document.activeElement.id || document.activeElement.getAttribute('aria-label') || document.activeElement.textContent)")
-        reached = page.browser.value("window.reached")
-        order = [it for it in reached if it in ("sent-files", "own-files", "print", "clear", "Remove record.proof", "Remove shop.lines")]
-        check(order == ["sent-files", "Remove record.proof", "own-files", "Remove shop.lines", "print", "clear"], f"the keyboard reaches {reached}")
+    page.browser.value("(document.activeElement?.blur(), window.reached = [], 1)")
+    for _ in range(17):
+        page.browser.press("Tab", 9)
+        page.browser.value("window.reached.push(document.activeElement.id || document.activeElement.getAttribute('aria-label') || document.activeElement.textContent)")
+    reached = page.browser.value("window.reached")
+    order = [it for it in reached if it in ("sent-files", "own-files", "document-files", "print", "clear", "Remove record.proof", "Remove shop.lines")]
+    check(order == ["sent-files", "Remove record.proof", "own-files", "Remove shop.lines", "document-files", "print", "clear"], f"the keyboard reaches {reached}")
     nameless = page.browser.value("[...document.querySelectorAll('button, input, textarea, select, svg[role=img]')].filter(it => !(it.getAttribute('aria-label') || it.labels?.length || it.textContent.trim())).map(it => it.outerHTML)")
     check(nameless == [], f"without a name: {nameless}")
     check(page.browser.value("document.querySelector('#summary').getAttribute('aria-live') === 'polite' && document.querySelector('#summary').textContent.includes('Shown')"), "the verdict isn't told to a screen reader")
@@ -400,17 +463,44 @@ def contrast(page):
 
 def printed(page):
     """the printed sheet has the verdict, the lines and where they are from, and the digests; and none of the fields"""
-    if not hasattr(page.browser, "print") or not shutil.which("pdftotext"):
-        return
     page.fresh().give("sent", "word.proof").give("own", "both.lines")
     with tempfile.TemporaryDirectory() as folder:
         page.browser.print(f"{folder}/sheet.pdf")
         text = subprocess.run(["pdftotext", "-layout", f"{folder}/sheet.pdf", "-"], capture_output=True, text=True, check=True).stdout
     joined = re.sub(r"\s+", " ", text)
-    for wanted in ("Shown in part: on somebody's word", "Only registry says", "got another way: both.lines", authenticator_of(page.made.lines["registry"])[:40], "carried shop 2", "Not the day by a clock"):
+    for wanted in ("Shown in part: on somebody's word", "only registry says", "got another way: both.lines", authenticator_of(page.made.lines["registry"])[:40], "carried shop 2", "Not the day by a clock",
+                   "Judged on 20", "timeweave verify word.proof LINES", "python3 reference/timeweave_reference verify word.proof LINES", "What the program prints of an accepted proof"):
         check(wanted in joined, f"not in the sheet: {wanted!r}\n{text}")
     for left in ("Choose files", "See an example", "Remove all files"):
         check(left not in joined, f"in the sheet: {left!r}")
+
+
+def pages_of(data):
+    """How many pages a PDF has, the parts of which may be packed."""
+    packed = re.findall(rb"stream\r?\n(.*?)\r?\nendstream", data, re.S)
+    return sum(len(re.findall(rb"/Type\s*/Page\b", part)) for part in (data, *map(unpacked, packed)))
+
+
+def unpacked(part):
+    """The bytes of a part of a PDF where it is packed in the one way that both browsers have for them."""
+    try:
+        return zlib.decompressobj().decompress(part)
+    except zlib.error:
+        return b""
+
+
+def reports_printed(page):
+    """a report that weft writes of each of the ten cases is printed on one page or two, and asks for nothing"""
+    page.browser.forget()
+    with tempfile.TemporaryDirectory() as folder:
+        for path in sorted((TOP / "examples/reports").glob("*.html")):
+            page.browser.value("window.isLeft = true")
+            page.browser.go(path.as_uri())
+            page.browser.wait("!window.isLeft && document.readyState === 'complete'")
+            page.browser.print(f"{folder}/report.pdf")
+            count = pages_of(Path(f"{folder}/report.pdf").read_bytes())
+            check(1 <= count <= 2, f"{path.name} is printed on {count} pages")
+    check(page.browser.asked == [], f"a report asked for or met: {page.browser.asked}")
 
 
 def no_connection(page):
@@ -421,10 +511,16 @@ def no_connection(page):
     check("unsafe-inline" not in policy and all(it in policy for it in ("default-src 'none'", "'wasm-unsafe-eval'", "base-uri 'none'", "form-action 'none'")), policy)
     refused = page.browser.value("(() => { try { const it = new XMLHttpRequest(); it.open('GET', 'http://127.0.0.1:9/', false); it.send(); return 'sent'; } catch { return 'refused'; } })()")
     check(refused == "refused", "the policy lets the page ask")
+    # (it is told some moments later)
+    end = time.monotonic() + SECONDS
+    while not page.browser.asked and time.monotonic() < end:
+        time.sleep(0.05)
+        page.browser.value("1")
+    check(page.browser.asked != [], "what the page asks for, and what its policy refuses, isn't seen by this test")
 
 
 def first_verdict(page):
-    """from opening the page to the first verdict it takes 300 milliseconds at most, where the machine is idle"""
+    """from opening the page to the first verdict it takes little time, where the machine is idle"""
     best = min(milliseconds_to_verdict(page) for _ in range(5 if is_idle() else 1))
     check(best <= MOST_MILLISECONDS or not is_idle(), f"{best:.0f} milliseconds")
 
@@ -440,16 +536,18 @@ def milliseconds_to_verdict(page):
 
 
 SITUATIONS = (
-    accepted_record, files_dropped, one_by_one, all_kinds, on_a_word, senders_lines, contradicting_lines, shown_line_differs, changed_files, what_is_no_proof,
-    maps_judged, evidence_judged, conflicts_told, large_files,
-    markup_in_events, strange_names, most_hops, narrow_and_wide, examples_stay_apart, typed_lines, digests_shown, keyboard_alone, contrast, printed, no_connection, first_verdict,
+    accepted_record, files_dropped, one_by_one, all_kinds, on_a_word, senders_lines, contradicting_lines, shown_line_differs, changed_files, the_document, what_is_no_proof,
+    maps_judged, evidence_judged, conflicts_told, ten_cases, large_files,
+    markup_in_events, strange_names, most_hops, narrow_and_wide, examples_stay_apart, typed_lines, digests_shown, keyboard_alone, contrast, reports_printed, no_connection, first_verdict,
 )
+# What needs pdftotext besides.
+ON_PAPER = (printed,)
 
 
-def tried(browser, made):
+def tried(browser, made, situations=SITUATIONS):
     """Each situation with what was wrong, or None."""
     page = Page(browser, made)
-    for situation in SITUATIONS:
+    for situation in situations:
         try:
             situation(page)
             yield situation, None
@@ -469,12 +567,11 @@ def pictures(page, folder):
     for file, lines in PICTURED:
         name, page_of = file.removesuffix(".proof"), page.browser
         for width in (360, 800, 1600):
-            for dark in (False, True) if hasattr(page_of, "drop") else (False,):
+            for dark in (False, True):
                 page_of.shape(width, dark=dark)
                 page.fresh().give("sent", file).give("own", lines)
                 page_of.picture(folder / f"{name}-{width}{'-dark' if dark else ''}.png", width, dark)
-        if hasattr(page_of, "print"):
-            page_of.print(folder / f"{name}.pdf")
+        page_of.print(folder / f"{name}.pdf")
     of_documents(page, folder)
 
 
@@ -482,7 +579,7 @@ def of_documents(page, folder):
     """The pictures of docs/: what the page says of two of its examples."""
     page.browser.shape(900)
     for number, name in ((2, "page"), (3, "page-word")):
-        page.fresh().browser.click(f"#examples button:nth-of-type({number})")
+        page.fresh().click(f"#examples button:nth-of-type({number})")
         page.browser.wait("document.querySelector('.verdict')")
         page.browser.picture(folder / f"{name}.png", 900, selector=".verdict")
 
@@ -496,14 +593,13 @@ def main():
     failed = 0
     with tempfile.TemporaryDirectory() as folder:
         made = all_made(program, folder)
-        browser = BROWSERS[name](folder)
-        if len(sys.argv) > 3:
-            pictures(Page(browser, made), Path(sys.argv[3]))
-        else:
-            for situation, wrong in tried(browser, made):
-                failed += wrong is not None
-                print(f"{'FAILED' if wrong else 'passed'} {situation.__doc__.strip()}" + (f"\n{wrong}" if wrong else ""), flush=True)
-        browser.close()
+        with BROWSERS[name](folder) as browser:
+            if len(sys.argv) > 3:
+                pictures(Page(browser, made), Path(sys.argv[3]))
+            else:
+                for situation, wrong in tried(browser, made, SITUATIONS + ON_PAPER * bool(shutil.which("pdftotext"))):
+                    failed += wrong is not None
+                    print(f"{'FAILED' if wrong else 'passed'} {situation.__doc__.strip()}" + (f"\n{wrong}" if wrong else ""), flush=True)
     return 1 if failed else 0
 
 

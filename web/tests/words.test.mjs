@@ -1,7 +1,7 @@
 import assert from "node:assert/strict";
 import { test } from "node:test";
 import { readReport } from "../timeweave.mjs";
-import { Foreign, aloneWords, carriedNotes, conflictWords, escaped, eventWords, forkNotes, mapReasonWords, missingWords, reasonWords, refutedWords, shownLineNotes, shownSentence, shownText, hopsSentence, timeNote, timeWords } from "../page/words.mjs";
+import { Foreign, aloneWords, carriedNotes, conflictWords, escaped, eventWords, forkNotes, mapReasonWords, missingWords, reasonWords, refutedWords, shownLineNotes, shownSentence, shownText, askForLinks, boundSentence, timeNote, timeWords, wordNotes, documentWords } from "../page/words.mjs";
 
 const A = "a".repeat(64), B = "b".repeat(64), bytes = (text) => new TextEncoder().encode(text);
 const report = (...lines) => readReport(`${lines.join("\n")}\n`);
@@ -51,11 +51,30 @@ test("each kind has its sentence", () => {
 test("a carried thread is its receiver's word, held against the lines of yours", () => {
     const carrying = report("accepted precedes", "event a 1 0 61", "event b 5 0 62", "hop a 1 b 2", `carried a 1 ${A}`);
     const line = (authenticator) => [{ service: "a", step: 1, authenticator }];
-    assert.match(carriedNotes(carrying, [])[0], /^Only b says that step 1 of a was so/);
+    assert.match(carriedNotes(carrying, [])[0], /^Not shown: only b says that step 1 of a was so/);
     assert.match(carriedNotes(carrying, line(A))[0], /^That is the line of step 1 of a that you kept/);
     assert.match(carriedNotes(carrying, line(B))[0], /two histories/);
-    assert.match(hopsSentence(carrying), /^1 of 1 hops is carried: who received such a step could have made it up/);
-    assert.equal(hopsSentence({ ...carrying, carried: [] }), "Every hop is bound by a line that you hold.");
+    assert.equal(boundSentence(), "Every hop is bound by a line that you hold.");
+});
+
+test("what is on somebody's word alone says so, each sentence of it by itself, and what is shown by lines is told apart", () => {
+    const way = (...carried) => report("accepted precedes", "event a 1 0 61", "event c 5 0 62", "hop a 1 b 2", "hop b 3 c 4", ...carried.map((name) => `carried ${name} ${name === "a" ? 1 : 3} ${A}`));
+    assert.equal(`${shownSentence(way("a"))}`, "By b's word alone: a recorded in its step 1, as event 0: “a”. By that word, too, it came before step 5 of c.");
+    assert.equal(`${shownSentence(way("b"))}`, "a recorded in its step 1, as event 0: “a”. c recorded in its step 5, as event 0: “b”. By c's word alone: The first came before the second.");
+    assert.match(`${shownSentence(way("a", "b"))}`, /^By b's and c's word alone: a recorded/);
+    const told = (...carried) => wordNotes(way(...carried), []).map((it) => `${it}`);
+    assert.deepEqual(told("a"), [
+        "Shown by the lines that counted: c recorded in its step 5, as event 0: “b”.", "Shown by them, too: b received this account of step 1 of a at its step 2.",
+        "Not shown: only b says that step 1 of a was so, and could have made it up.",
+    ]);
+    // (where the receiver's own step is carried too, that it received anything is no more than a word)
+    assert.deepEqual(told("a", "b").filter((it) => it.startsWith("Shown by them")), ["Shown by them, too: c received this account of step 3 of b at its step 4."]);
+    assert.match(told("b")[0], /both events, each in its own service's history/);
+    assert.match(askForLinks(way("a", "b")), /^Ask whoever sent it for the same proof with links from step 1 of a and step 3 of b, .* neither that service, nor b and c, nor the sender\.$/);
+    const same = { document: { name: "x" }, match: "same" };
+    assert.match(`${documentWords(way("a"), { ...same, places: [0] })}`, /^By b's word alone: /);
+    assert.doesNotMatch(`${documentWords(way("a"), { ...same, places: [1] })}`, /word alone/);
+    assert.doesNotMatch(`${documentWords(way("b"), { ...same, places: [0] })}`, /word alone/);
 });
 
 test("a line that is shown is held against the lines of yours", () => {
