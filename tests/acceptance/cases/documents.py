@@ -7,10 +7,12 @@ import re
 import shutil
 import subprocess
 import sys
+from pathlib import Path
 
 import claims
 import declared
 import definitions
+import placed
 import proved_by
 from harness.places import LONGEST, TOP
 from harness.rooms import Skipped, Wrong, case, checked, needs
@@ -20,8 +22,11 @@ DOCUMENTS = [TOP / "README.md", TOP / "reference/README.md", TOP / "web/README.m
 
 # The most words of all documents and manual pages together, those that tools write among them, but for docs/theorem.md: that has a limit of its own
 # (tools/theorem.py). (The table of the names that stand otherwise, and what each party can do, have some 2,500 of them; how a file is opened, which
-# trust.md prints whole, some 300.)
-MOST_WORDS = 64_000
+# trust.md prints whole, some 300; the manual of `list`, `record`, `find`, `backup`, `restore`, `status`, `publish` and `fetch` some 2,000.)
+MOST_WORDS = 67_500
+
+# The documents that name what others have by the words of these.
+OF_OTHERS = ("glossary.md", "comparing.md")
 
 
 def anchors(document):
@@ -42,6 +47,16 @@ def links(program):
             if not goal.exists() or (anchor and anchor not in anchors(goal)):
                 wrong.append(f"  {document.relative_to(TOP)}: {target}")
     return "\n".join(wrong) or None
+
+
+def installed_links(program):
+    """The links of the installed documents that lead nowhere. (The licence is what Debian calls `copyright`.)"""
+    places = {line.place.removeprefix("DOC/"): TOP / line.source for line in placed.table() if line.place.startswith("DOC/")}
+    known = {"LICENSE", *places, *(str(folder) for place in places for folder in Path(place).parents)}
+    return "\n".join(
+        f"  {place}: {target}" for place, source in places.items() if place.endswith(".md") and source.exists()
+        for target in re.findall(r"\]\(([^)#:]+)(?:#[^)]*)?\)", source.read_text()) if os.path.normpath(f"{Path(place).parent}/{target}") not in known
+    ) or None  # fmt: skip
 
 
 def shown(text):
@@ -139,14 +154,15 @@ def version(program):
 
 
 def length(program):
-    """The README's words where they are more than 1,800."""
+    """The README's words where they are more than 1,600."""
     words = len((TOP / "README.md").read_text().split())
-    return f"  README.md has {words} words" if words > 1800 else None
+    return f"  README.md has {words} words" if words > 1600 else None
 
 
 def prose(page):
-    """The lines of a page that are prose: no code, no link's target."""
-    text = re.sub(r"```.*?```|`[^`]*`|\]\([^)]*\)", lambda found: "\n" * found[0].count("\n"), page.read_text(), flags=re.S)
+    """The lines of a page that are prose: no code, no link's target, no row of the table of others' words."""
+    whole = re.sub(r"(?<=\n## Words\n).*?(?=\n## )", lambda found: "\n" * found[0].count("\n"), page.read_text(), flags=re.S)
+    text = re.sub(r"```.*?```|`[^`]*`|\]\([^)]*\)", lambda found: "\n" * found[0].count("\n"), whole, flags=re.S)
     return [line if not line.startswith("    ") else "" for line in text.splitlines()]
 
 
@@ -155,12 +171,8 @@ def glossary(program):
     rows = re.findall(r"\(\*not\*\s([^)]*)\)", (TOP / "docs/glossary.md").read_text())
     refused = [word for row in rows for word in re.split(r",\s", row)] + ["(?:as|are|is|crates) to come", "not yet"]
     pattern = re.compile(rf"\b(?:{'|'.join(refused)})(?:s|es)?\b", re.I)
-    wrong = []
-    for page in pages():
-        for number, line in enumerate(prose(page), 1):
-            if page.name != "glossary.md":
-                wrong += [f"  {page.relative_to(TOP)}:{number}: {found}" for found in pattern.findall(line)]
-    return "\n".join(wrong) or None
+    lines = ((page, number, line) for page in pages() if page.name not in OF_OTHERS for number, line in enumerate(prose(page), 1))
+    return "\n".join(f"  {page.relative_to(TOP)}:{number}: {found}" for page, number, line in lines for found in pattern.findall(line)) or None
 
 
 def pages():
@@ -215,6 +227,7 @@ def without_program():
     """The cases that need no built program."""
     checks = {
         "links": links,
+        "links of what is installed": installed_links,
         "pictures and forms": made,
         "pages of clauses and definitions": of_sources,
         "times": times,

@@ -5,6 +5,7 @@ import contextlib
 import io
 import os
 import re
+import resource
 import shutil
 import subprocess
 import sys
@@ -196,7 +197,7 @@ def untried_crates(room):
 
 
 def good_packages(room):
-    """packages have no scripts, root owns their files, lintian finds no error, and a signature of the digests is accepted"""
+    """packages have no scripts, and one file of settings; root owns their files, lintian finds no error, and a signature of the digests is accepted"""
     can_pack()
     into = room.folder / "dist"
     into.mkdir()
@@ -210,8 +211,11 @@ def good_packages(room):
         listed = subprocess.run(["dpkg-deb", "--ctrl-tarfile", path], check=True, capture_output=True).stdout
         names = subprocess.run(["tar", "-t"], input=listed, check=True, capture_output=True).stdout.decode().split()
         owners = {line.split()[1] for line in subprocess.run(["dpkg-deb", "-c", path], check=True, capture_output=True, text=True).stdout.splitlines()}
-        if not set(names) <= {"./", "./control", "./md5sums", "./shlibs", "./triggers"} or owners != {"root/root"}:
+        if not set(names) <= {"./", "./control", "./md5sums", "./shlibs", "./triggers", "./conffiles"} or owners != {"root/root"}:
             raise Wrong(f"  {path.name} has {names}, owned by {owners}")
+        settings = subprocess.run(["dpkg-deb", "-I", path, "conffiles"], capture_output=True, text=True).stdout if "./conffiles" in names else ""
+        if settings != ("/etc/timeweave.conf\n" if path.name.startswith("timeweave_") else ""):
+            raise Wrong(f"  {path.name} has the settings {settings!r}")
     if key.exists():
         (room.folder / "signers").write_text(f"timeweave {key.with_suffix('.pub').read_text()}")
         words = ["ssh-keygen", "-Y", "verify", "-f", room.folder / "signers", "-I", "timeweave", "-n", "timeweave", "-s", into / "SHA256SUMS.sig"]
@@ -289,7 +293,115 @@ def compared(room):
             raise Wrong(f"  {are_same} with {out.getvalue()}")
 
 
+# ---- each night
+
+
+def units(room):
+    """systemd finds nothing wrong with the units of the package; each setting of theirs is known; the user, the folder and the umask are those that are promised"""
+    import package
+    import placed
+
+    needs("systemd-analyze", "systemd")
+    placed.copy(["service"], package.DEBIAN, room.folder)
+    checked = ["systemd-analyze", "verify", "--man=no", "--recursive-errors=no", f"--root={room.folder}", "timeweave.service", "timeweave.timer"]
+    done = subprocess.run(checked, capture_output=True, text=True, timeout=LONGEST)
+    if done.returncode or done.stdout + done.stderr:
+        raise Wrong(f"  {done}")
+    unit = (room.folder / "usr/lib/systemd/system/timeweave.service").read_text()
+    for line in ("User=timeweave", "StateDirectory=timeweave", "UMask=0077", "ProtectSystem=strict", "ExecStart=/usr/share/timeweave/night /etc/timeweave.conf"):
+        if f"{line}\n" not in unit:
+            raise Wrong(f"  the unit hasn't {line}")
+    if not os.access(room.folder / "usr/share/timeweave/night", os.X_OK):
+        raise Wrong("  its program can't be run")
+
+
+def settings_kept(room):
+    """installing, an upgrade and the removal of the package run nothing, and leave the settings that a person changed; a purge takes these alone, and no data"""
+    import package
+
+    dpkg = needs("dpkg", "dpkg")
+    needs("dpkg-deb", "dpkg")
+    if os.geteuid():
+        raise Skipped("dpkg installs as root alone")
+    root, made = room.folder / "root", []
+    for folder in ("var/lib/dpkg/info", "var/lib/dpkg/updates", "var/lib/timeweave/log", "backup"):
+        (root / folder).mkdir(parents=True)
+    (root / "var/lib/dpkg/status").touch()
+    fields = {"Package": "timeweave", "Parts": "service", "Section": "utils", "Depends": "python3", "Description": "units of Timeweave"}
+    for version in ("1.0", "1.1"):
+        (room.folder / version).mkdir()
+        made.append(package.package(fields, package.Making(room.folder / version, 1, {}, version)))
+    data = {root / "var/lib/timeweave/log/timeline.tw": b"store", root / "backup/log": b"backup"}
+    for path, text in data.items():
+        path.write_bytes(text)
+
+    def run(*words):
+        environment = os.environ | {"DPKG_ROOT": "", "DEBIAN_FRONTEND": "noninteractive"}
+        done = subprocess.run([dpkg, f"--root={root}", "--force-depends", *words], env=environment, capture_output=True, text=True, timeout=LONGEST, stdin=subprocess.DEVNULL)
+        if done.returncode or any(path.read_bytes() != text for path, text in data.items()):
+            raise Wrong(f"  dpkg {words}: {done}")
+
+    settings = root / "etc/timeweave.conf"
+    run("--install", made[0])
+    mine = settings.read_text() + "BACKUP=/backup/log\n"
+    settings.write_text(mine)
+    for words in (("--install", made[1]), ("--remove", "timeweave"), ("--install", made[1])):
+        run(*words)
+        if settings.read_text() != mine or (root / "usr/lib/systemd/system/timeweave.timer").exists() != (words[0] == "--install"):
+            raise Wrong(f"  after dpkg {words} the settings are {settings.read_text()!r}")
+    run("--purge", "timeweave")
+    if settings.exists() or (root / "usr/share/timeweave/night").exists():
+        raise Wrong("  something of the package is left")
+
+
+# What stands for weft: it notes its words, and ends with the status that a file of the word's name has.
+STAND_IN = """#!/bin/sh
+echo "$*" >> "$ROOM/ran"
+exit "$(cat "$ROOM/$1" 2> /dev/null || echo 0)"
+"""
+
+
+def night(room):
+    """a night logs, takes its turn, makes the backup and publishes, in this order; what fails is told and stops nothing else, but nothing is published without tonight's
+    backup; it ends with the greatest status; what the settings leave empty isn't done"""
+    room.put("weft", STAND_IN.encode())
+    (room.folder / "weft").chmod(0o755)
+    whole = {"FOLDER": "/srv/da ta", "SERVICE": "/srv/log", "BOX": "/srv/box", "BACKUP": "/backup/log", "KEYS": "yes", "PUBLISH": "/srv/www"}
+    words = ["log /srv/da ta /srv/log", "exchange /srv/log /srv/box", "backup /srv/log /srv/box /backup/log --keys", "publish /srv/box /srv/www"]
+
+    def run(settings, statuses):
+        for name in ("ran", "log", "exchange", "backup", "publish"):
+            (room.folder / name).unlink(missing_ok=True)
+        for name, status in statuses.items():
+            room.put(name, str(status).encode())
+        room.put("conf", "".join(f"{name}='{value}'\n" for name, value in settings.items()).encode())
+        environment = {"PATH": f"{room.folder}:/usr/bin:/bin", "ROOM": str(room.folder)}
+        done = subprocess.run(["sh", TOP / "weft/service/night", room.folder / "conf"], env=environment, capture_output=True, text=True, timeout=LONGEST)
+        ran = (room.folder / "ran").read_text().splitlines() if (room.folder / "ran").exists() else []
+        return done.returncode, ran, done.stderr
+
+    for settings, statuses, status, ran, told in (
+        (whole, {}, 0, words, ""),
+        (whole, {"log": 10, "exchange": 11}, 11, words, "weft exchange ended with 11"),
+        (whole, {"backup": 10}, 10, words, "weft backup ended with 10"),
+        (whole, {"log": 17, "backup": 5}, 17, words[:3], "nothing was published"),
+        (whole, {"backup": 17}, 17, words[:3], "nothing was published"),
+        (whole | {"BACKUP": "", "KEYS": ""}, {}, 10, words[:2], "nothing was published"),
+        (whole | {"BOX": "", "KEYS": ""}, {}, 0, [words[0], "backup /srv/log /backup/log"], ""),
+        (whole | {"FOLDER": "", "PUBLISH": "", "KEYS": ""}, {}, 0, [words[1], "backup /srv/log /srv/box /backup/log"], ""),
+        (whole | {"SERVICE": ""}, {}, 2, [], "names no SERVICE"),
+    ):
+        found = run(settings, statuses)
+        if found[:2] != (status, ran) or told not in found[2] or (not told and found[2]):
+            raise Wrong(f"  {settings}, {statuses}\n  {found}")
+    if run(whole, {})[0] or subprocess.run(["sh", TOP / "weft/service/night", room.folder / "nothing"], capture_output=True, timeout=LONGEST).returncode == 0:
+        raise Wrong("  without settings it ended with 0")
+
+
 # ---- old processors
+
+
+MOST_ROOM = 16 << 30
 
 
 def old_processors(room):
@@ -305,12 +417,14 @@ def old_processors(room):
         library.checked_run(["cc", "-O2", "-I", TOP / "include", "-o", many, TOP / "examples/many_proofs.c", library.ARCHIVE])
         runs.append(([many, "p", "k", "2"], told))
     for words, wanted in runs:
-        done = subprocess.run([emulator, "-cpu", "core2duo", *words], cwd=room.folder, capture_output=True, timeout=LONGEST)
+        # (a program that was built to find faults in memory would take all of it there)
+        limit = lambda: resource.setrlimit(resource.RLIMIT_AS, (MOST_ROOM, MOST_ROOM))  # noqa: E731
+        done = subprocess.run([emulator, "-cpu", "core2duo", *words], cwd=room.folder, capture_output=True, timeout=LONGEST, preexec_fn=limit)
         if done.returncode or wanted not in done.stdout:
             raise Wrong(f"  {words}: {done}")
 
 
 def cases():
     yield from checked("installed", {"completion": completion, "manual page": manual})
-    for work in (install, install_elsewhere, same_packages, untried_crates, good_packages, stamps, source_sums, compared, old_processors):
+    for work in (install, install_elsewhere, same_packages, untried_crates, good_packages, stamps, source_sums, compared, units, settings_kept, night, old_processors):
         yield case(work, "installed")

@@ -148,7 +148,7 @@ def raised(proof, anchors):
 
 def types(room):
     """the module for Python has no fault in its types, for Python 3.9"""
-    checked_run([needs("mypy", "mypy"), "--strict", "--python-version", "3.9", "--cache-dir", room.folder / "cache", TOP / "bindings/python/timeweave.py"])
+    checked_run([needs("mypy", "mypy"), "--strict", "--python-version", "3.9", "--cache-dir", room.folder / "cache", *sorted((TOP / "bindings/python").glob("*.py"))])
 
 
 def maps_and_forks():

@@ -3,6 +3,7 @@ evidence and have a history taken over, a service that breaks the rules proves b
 name; and the commands that it gives do what it says."""
 
 import functools
+import re
 import shutil
 import subprocess
 import sys
@@ -14,13 +15,12 @@ from cases.shown import verdicts
 from harness.examples import linked, with_program
 from harness.making import absent_proof, link_proof, message_bytes, proof_bytes, thread_proof
 from harness.places import LONGEST, TOP
-from harness.rooms import Room, Wrong, case, needs
+from harness.rooms import SKIPPED, Room, Wrong, case, needs
 from timeweave_reference.archives import EMPTY, listed
 from timeweave_reference.events_files import events_to_bytes
 from timeweave_reference.histories import Step
 from timeweave_reference.messages import read_message
 from timeweave_reference.recording import History
-from timeweave_reference.services import service_of
 from timeweave_reference.timelines import Timeline
 
 
@@ -138,19 +138,42 @@ def picked_lines(room: Room) -> None:
     told(room, "verify proof anchors", 9, "unreadable anchors line 3\n")
 
 
-def copy_tried(room: Room) -> None:
-    """a copy of a store is tried under the last line before it is put back: one that lacks the step, and one that went on otherwise, show it"""
+# What stands for the programs of a machine on which systemd runs: of `systemctl start` the night is made.
+SYSTEM = {
+    "systemd-sysusers": "exit 0", "setfacl": "exit 0", "runuser": 'shift 3; exec "$@"', "install": 'shift 5; mkdir -p "$@"',
+    "systemctl": 'case $1 in start) exec "{night}" "{conf}";; esac',
+}  # fmt: skip
+
+
+def main_path(room: Room) -> None:
+    """the main path is typed as it is written: settings, a night that logs and backs up, its state, and a restore that is tried; where systemd doesn't run, stand-ins
+    take its programs' place"""
     linked(room)
-    for name, steps in (("good", 31), ("old", 30), ("other", 31)):
-        (room.folder / name).mkdir()
-        (room.folder / name / "timeline.tw").write_bytes(service_of("shop", [[b"%d" % step if (name, step) != ("other", 4) else b"x"] for step in range(steps)]).file())
-    room.put("last", service_of("shop", [[b"%d" % step] for step in range(31)]).anchor(31))
-    for name, steps, wanted in (("good", 31, "accepted link\nlink shop 31 31 "), ("old", 30, "1 "), ("other", 31, "rejected 4 BadPath 0\n1 ")):
-        expect_shell(room, "mkdir trial && cp backup trial/timeline.tw", "0 ", trial=f"try-{name}", backup=f"{name}/timeline.tw")
-        expect_shell(room, "timeweave prove trial event 1099511627775 0", f"refused NoStep {steps}\n7 ", trial=f"try-{name}")
-        found = shell(room, "timeweave prove trial link 31 31 > proof && timeweave verify proof last", trial=f"try-{name}")
-        if not found.startswith(wanted if name != "old" else "7 "):
-            raise Wrong(f"  the trial of the {name} copy\n  got    {found!r}")
+    text = (TOP / "docs/operating.md").read_text()
+    first, second = text.split("**As Debian runs a service.**")[1].split("**By cron**")[0], text.split("**Try it once a year**")[1].split("\n\n")[1]
+    places = {"/srv": f"{room.folder}/srv", "/var/lib/timeweave": f"{room.folder}/var", "/backup": f"{room.folder}/backup", "/tmp": f"{room.folder}/tmp"}
+
+    def placed(line: str) -> str:
+        return re.sub("(?<![A-Za-z])(" + "|".join(places) + ")(?=/| |$)", lambda found: places[found[1]], line.strip(), flags=re.M)
+
+    lines = [placed(line) for line in first.splitlines() if line.startswith("    ")]
+    for folder in ("bin", "srv/data", "var", "tmp"):
+        (room.folder / folder).mkdir(parents=True, exist_ok=True)
+    for name, script in SYSTEM.items():
+        room.put(f"bin/{name}", f"#!/bin/sh\n{script.format(night=TOP / 'weft/service/night', conf=room.folder / 'conf')}\n".encode())
+        (room.folder / f"bin/{name}").chmod(0o755)
+    SKIPPED.append(f"operated: {', '.join(SYSTEM)} aren't run: stand-ins take their place, since systemd doesn't run here")
+    room.put("srv/data/paid.csv", b"1\n")
+    path = f"export HOME={room.folder}/var PATH={room.folder}/bin:$PATH; "
+    room.put("conf", "".join(f"{line}\n" for line in lines if re.match("[A-Z]+=", line)).encode())
+    typed = [shell_of(room, path + line) for line in lines if not re.match("[A-Z]+=", line)]
+    if not all(found.split("\n")[-1] == "0 " for found in typed):
+        raise Wrong(f"  {typed}")
+    if "data: step 2, of" not in typed[-1] or "backup: up to step 2 of data" not in typed[-1] or len(typed) != 7:
+        raise Wrong(f"  {typed}")
+    drill = shell_of(room, path + placed(second))
+    if "data is put back up to step 2" not in drill or "2 of 2 steps good" not in drill or "\n10 " not in drill:
+        raise Wrong(f"  {drill}")
 
 
 def looked_at(room: Room) -> None:
@@ -275,7 +298,7 @@ def woven_by_cron(room: Room) -> None:
     text = (TOP / "docs/operating.md").read_text().split("**Three services on one machine")[1].split("Between machines")[0]
     backup = room.folder.with_name(f"{room.folder.name}-backup")
     backup.mkdir()
-    places = (("/backup/srv", f"{backup}/all"), ("/backup/", f"{backup}/"), ("/srv", str(room.folder)))
+    places = (("/backup/", f"{backup}/"), ("/srv", str(room.folder)))
     night = [functools.reduce(lambda words, place: words.replace(*place), places, line.split(None, 5)[5]) for line in text.splitlines() if line.startswith("    0 ")]
     first = "mkdir /srv/box-shop && echo 'key = /srv/shop.key' > /srv/box-shop/box.conf"
     key, peers = "ssh-keygen -t ed25519 -N '' -f /srv/shop.key", {"shop": ["bank"], "bank": ["shop", "port"], "port": ["bank"]}
@@ -292,6 +315,8 @@ def woven_by_cron(room: Room) -> None:
             (room.folder / f"files-{name}/of-{name}").write_text(f"{number}\n")
         for name, file in {0: [("shop", "sold")], 5: [("port", "sent")]}.get(number, []):
             (room.folder / f"files-{name}/{file}").write_text(f"{file}\n")
+        for name in peers if number == 0 else ():
+            shell(room, "weft log /srv/files-shop /srv/shop shop", **{"/srv": str(room.folder), "shop": name})
         found = [shell_of(room, command) for command in night]
         if number == 0:
             for name, peer in pairs:
@@ -354,7 +379,7 @@ def judged_beside(room: Room) -> None:
 
 def cases() -> List[dict]:
     works = (
-        made_up_message, made_up_far_step, another_old_head, picked_lines, copy_tried, looked_at, fooled_receiver, one_accuser, one_receiver,
+        made_up_message, made_up_far_step, another_old_head, picked_lines, main_path, looked_at, fooled_receiver, one_accuser, one_receiver,
         thread_left_out, goes_on, woven_by_cron, stamped, usage_of_judge, judged_beside,
     )
     return [case(work, "operated") for work in works]

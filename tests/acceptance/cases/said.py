@@ -39,18 +39,27 @@ JOINED = "Under lines that are one or joined, no sound history has the later lin
 RECEIVER = "where one service received both authenticators of one step of a fork"
 TIME = "that a time is true"
 WHOSE = "whose a line is"
+THEOREM = "in every list of logs that keep the rules and have your lines"
+KEEPERS = "has no sound history, and then these sentences say nothing of it"
 KEPT_RULES = "kept the rules"
 
 CLAIMS = {
     "event": Claim(AN_EVENT, "service step index event"),
+    "file": Claim(AN_EVENT, "path digest"),
+    "unnamed file": Claim(AN_EVENT, "digest"),
     "time": Claim(TIME, "service step time", ("claims", "isn't shown")),
     "order": Claim(HOPS, ""),
     "order in one history": Claim(HOPS, "first second", ("in one history",)),
     "hop": Claim(HOPS, "by step service archived"),
     "bound": Claim(CARRIED, "", ("by a line that you hold",)),
-    "carried": Claim(CARRIED, "by step service", ("Only {by} says", "could have made it up")),
-    "one carried": Claim(CARRIED, "all", ("could have made it up",)),
-    "carried hops": Claim(CARRIED, "count all", ("could have made it up",)),
+    "carried": Claim(CARRIED, "by step service", ("Not shown: only {by} says", "could have made it up")),
+    "on a word": Claim(CARRIED, ""),
+    "by word": Claim(CARRIED, "whose told", ("By {whose} word alone",)),
+    "word order": Claim(HOPS, "step service", ("By that word",)),
+    "shown by lines": Claim(AN_EVENT, "told", ("by the lines that counted",)),
+    "both by lines": Claim(AN_EVENT, "", ("by the lines that counted",)),
+    "account": Claim(A_THREAD, "by step service archived", ("this account",)),
+    "ask for links": Claim(CARRIED, "steps by", ("neither that service, nor {by}, nor the sender",)),
     "thread": Claim(A_THREAD, "service received peer authenticator step archived"),
     "maker": Claim(WHOSE, "peer", ("isn't shown",)),
     "absent": Claim(NO_THREAD, "service absent peer step", (f"if it {KEPT_RULES}", "an audit", "whether it did")),
@@ -61,6 +70,31 @@ CLAIMS = {
     "first after": Claim(MAPS, "high peer step service"),
     "none after": Claim(MAPS, "upto peer step service"),
     "behind": Claim(MAPS, "peer upto", ("nothing is shown",)),
+    "same file": Claim(AN_EVENT, "file", ("by its digest and name",)),
+    "same file as": Claim(AN_EVENT, "file which", ("by its digest and name",)),
+    "renamed file": Claim(AN_EVENT, "file names", ("under the name",)),
+    "renamed file as": Claim(AN_EVENT, "file which names", ("under the name",)),
+    "earlier event": Claim(AN_EVENT, ""),
+    "later event": Claim(AN_EVENT, ""),
+    "not this file": Claim(AN_EVENT, "", ("not this file",)),
+    "other file": Claim(AN_EVENT, "file", ("another file",)),
+    "namesake": Claim(AN_EVENT, "file", ("another file", "another digest")),
+    "other file than both": Claim(AN_EVENT, "file", ("another file", "neither")),
+    "digest recorded": Claim(AN_EVENT, "digest"),
+    "digest given": Claim(AN_EVENT, "digest"),
+    "other version": Claim(AN_EVENT, ""),
+    "as no file": Claim(AN_EVENT, "", ("as no file",)),
+    "no file": Claim(AN_EVENT, "told", ("is no entry",)),
+    "no files": Claim(AN_EVENT, "told", ("Neither event",)),
+    "unread file": Claim(AN_EVENT, "file", ("isn't seen",)),
+    "no event": Claim(AN_EVENT, "file", ("isn't compared with it",)),
+    "no document": Claim(AN_EVENT, "", ("no document",)),
+    "document not given": Claim(AN_EVENT, "names", ("You gave no document", "isn't judged")),
+    "no format": Claim(AN_EVENT, "file", ("nothing of it is judged",)),
+    "is it the document": Claim(AN_EVENT, "", ("its proof is missing",)),
+    "without proof": Claim(AN_EVENT, "file", ("isn't compared with anything",)),
+    "proof not judged": Claim(AN_EVENT, "file", ("isn't compared", "isn't judged")),
+    "proof not accepted": Claim(AN_EVENT, "file", ("isn't compared", "accepted")),
     "received": Claim(FORKS, "by step service authenticator archived"),
     "no history": Claim(FORKS, "service", ("No history of {service} has both", "or a receiver made one up")),
     "two receivers": Claim(FORKS, "service first second", ("isn't shown", "may have", "or one of both")),
@@ -76,8 +110,51 @@ CLAIMS = {
     "one file": Claim(JOINED, "service", ("broke its rules", "nothing is shown")),
     "same line": Claim(A_LINK, "step service"),
     "other line": Claim(WHOSE, "step service came told", ("has shown two histories, or one of both isn't",)),
+    "own lines": Claim(WHOSE, ""),
+    "line and file": Claim(WHOSE, ""),
+    "own lines told": Claim(A_LINK, "service other step"),
+    "two histories": Claim(WHOSE, "service", ("has shown two histories, or one of both lines isn't",)),
+    "in doubt": Claim(WHOSE, "service"),
     "keep both": Claim(WHOSE, "service"),
     "told twice": Claim(WHOSE, "first one step service second other", ("has shown two histories, or one of both isn't",)),
+    "theorem": Claim(THEOREM, "", ("sound histories", "Or two different texts")),
+    "assume lines": Claim(WHOSE, "", ("as the way on which it came",)),
+    "assume rules": Claim(THEOREM, "", ("kept the rules", "an audit")),
+    "assume digests": Claim(THEOREM, "", ("SHA-256",)),
+    "assume proved": Claim(THEOREM, "", ("are trusted",)),
+    "assume tested": Claim(THEOREM, "", ("not proved",)),
+    "not who": Claim(WHOSE, "", ("isn't judged",)),
+    "not the day": Claim(TIME, "", ("own claim",)),
+    "bundle yours": Claim(WHOSE, "step service", ("that you kept",)),
+    "bundle key": Claim(WHOSE, "step service by", ("that you noted",)),
+    "bundle stamp": Claim(WHOSE, "step service", ("only the sender says", "not whose it is")),
+    "bundle sender": Claim(WHOSE, "step service", ("sender's alone", "nothing is judged")),
+    "stood by": Claim(TIME, "step service day authority", ("says {authority}", "not proved")),
+    "renewed": Claim(TIME, ""),
+    "event stood by": Claim(TIME, "index step service day authority", ("not after", "if {authority} is right")),
+    "history stood by": Claim(TIME, "service step day authority", ("not after", "if {authority} is right")),
+    "whose stamp": Claim(WHOSE, "", ("doesn't say whose",)),
+    "stamp of": Claim(TIME, "step service told", ("gives no day",)),
+    "stamp foreign": Claim(TIME, "", ("you trust", "not whoever sent")),
+    "stamp expired": Claim(TIME, "authority day", ("could have made it",)),
+    "stamp revoked": Claim(TIME, "authority", ("could have made it",)),
+    "stamp other": Claim(TIME, ""),
+    "stamp weak": Claim(TIME, "said"),
+    "stamp changed": Claim(TIME, "said"),
+    "stamp unchecked": Claim(TIME, "said", ("nothing is said of it",)),
+    "not of broken rules": Claim(KEEPERS, "", ("Nothing of a keeper who broke the rules",)),
+    "not what else": Claim(AN_EVENT, "", ("isn't told",)),
+    "digits short": Claim(WHOSE, "step service count said", ("ends short",)),
+    "digits long": Claim(WHOSE, "step service count said"),
+    "digit wrong": Claim(WHOSE, "step service said"),
+    "row check": Claim(WHOSE, "row step service", ("Typed rightly?", "compare")),
+    "row guess": Claim(WHOSE, "said", ("If one digit is wrong",)),
+    "whole check": Claim(WHOSE, "step service", ("Typed rightly?", "compare")),
+    "digits alone": Claim(WHOSE, "number count"),
+    "amid words": Claim(WHOSE, "step service digits", ("may say anything of it",)),
+    "typed rightly": Claim(WHOSE, ""),
+    "slip": Claim(WHOSE, "right wrong where step service", ("Typed rightly?", "compare")),
+    "slip between": Claim(WHOSE, "step service where one other", ("Typed rightly?", "compare")),
     "missing": Claim(WHOSE, "step service"),
     "ask others": Claim(WHOSE, "service", ("is neither {service} nor whoever sent you this file",)),
     "only now": Claim(WHOSE, "", ("nothing about the time before",)),
@@ -99,6 +176,8 @@ def by_clauses(program):
         wrong += [f"  {key!r} lacks {word!r}" for word in claim.words if word not in text]
         wrong += [f"  {key!r}: docs/claims.md doesn't say {claim.clause!r}"] if claim.clause not in document else []
     every = [*sentences.SENTENCES.values(), *sentences.RULES.values(), *(text for reason in sentences.REASONS.values() for text in reason)]
+    if " ".join((TOP / "docs/theorem.md").read_text(encoding="utf-8").split()).find(f"*{sentences.SENTENCES['theorem']}*") < 0:
+        wrong.append("  the theorem isn't the sentence of docs/theorem.md")
     return "\n".join([*wrong, *(f"  says more than any clause: {text}" for text in every if MORE.search(text))]) or None
 
 
@@ -156,7 +235,7 @@ def by_weft(answer):
     report = reports.read_report(verdict)
     if answer["of"] == "map":
         return reports.map_sentences(report, answer["service"], str(answer["step"]), answer["peer"])
-    return [text.replace(", by this way:", ".") for text in reports.sentences(report) if not text.startswith("  ")]
+    return [text.replace(", by this way:", ".").removeprefix("What to do: ") for text in reports.sentences(report) if not text.startswith("  ")]
 
 
 def apart(texts):

@@ -62,32 +62,47 @@ def exemplified(program):
 BEFORE = {
     "log": "mkdir -p /srv/data /srv/sent && echo 7 > /srv/data/paid.csv && echo 8 > /srv/sent/sent && cp /srv/data/paid.csv .",
     "line": "mkdir ~/.ssh && ssh-keygen -q -t ed25519 -N '' -f ~/.ssh/id_ed25519",
-    "prove": "weft keep line --by own",
+    "list": "timeweave export /srv/log > log.history",
+    "prove": "weft keep line --by own && cp line his.lines",
     "keep": "for name in shop notary bank; do weft log /srv/sent /srv/$name $name && ssh-keygen -q -t ed25519 -N '' -f $name.key; done; "
-    "weft line /srv/shop --sign shop.key --out shop.line; mv shop.key.pub shop_key.pub; mv bank.key.pub bank_key.pub; cp /srv/notary.anchor letter.txt",
+    "weft line /srv/shop --sign shop.key --out shop.line; mv shop.key.pub shop_key.pub; mv bank.key.pub bank_key.pub; cp /srv/notary.anchor letter.txt; "
+    "openssl req -x509 -newkey ec -pkeyopt ec_paramgen_curve:prime256v1 -nodes -keyout tsa.key -out tsa.pem -days 9 -subj /CN=tsa -addext extendedKeyUsage=critical,timeStamping; "
+    "echo 01 > serial; printf '%s\\n' [t] serial=serial default_policy=1.2.3 digests=sha512 signer_digest=sha256 signer_cert=tsa.pem signer_key=tsa.key > tsa.cnf; "
+    "openssl ts -query -data shop.line -sha512 -cert -out query; openssl ts -reply -config tsa.cnf -section t -queryfile query -out shop.stamp",
     "tell": "timeweave thread /srv/shop 0 > message && timeweave receive /srv/notary message > receipt && cp paid.proof proof",
     "exchange": "mkdir /srv/box /srv/box-bank && echo key = ~/.ssh/id_ed25519 > /srv/box/box.conf && echo key = $PWD/bank.key > /srv/box-bank/box.conf; "
     "weft accept /srv/box-bank data --key ~/.ssh/id_ed25519.pub",
     "accept": "weft exchange /srv/bank /srv/box-bank; mkdir -p /srv/box/bank/in && cp -r /srv/box-bank/data/out/. /srv/box/bank/in && cp /srv/bank.anchor bank.line",
     "chain": "weft exchange /srv/log /srv/box; timeweave thread /srv/log 0 > message && timeweave receive /srv/bank message > receipt; "
     "echo 9 > /srv/sent/more && weft log /srv/sent /srv/bank; weft keep /srv/bank.anchor --by own; weft prove /srv/bank more --out sent.proof; "
-    "weft keep /srv/log.anchor --by own; weft line /srv/log > last; weft keep last --by own",
+    "weft keep /srv/log.anchor --by own; weft line /srv/log > last; weft keep last --by own; cat last /srv/bank.anchor > his.lines",
     "judge": "timeweave map /srv/log low 2 bank > low; timeweave map /srv/bank high 2 data > high; mkdir proofs && cp proof proofs; "
     "mkdir sent && cp paid.proof sent.proof sent && timeweave export /srv/log > log.history",
     "check": "cp /srv/log.lines ~/lines",
+    "record": "echo deed > deed.pdf",
+    "find": "true",
+    "publish": "mkdir -p /srv/www/log",
+    "fetch": "true",
+    "backup": "mkdir /backup",
+    "status": "true",
+    "bundle": "true",
+    "stamp": "weft line /srv/log > line; openssl ts -query -data line -sha512 -cert -out query; openssl ts -reply -config tsa.cnf -section t -queryfile query -out line.stamp",
+    "restore": "mkdir lost && mv /srv/log /srv/log.* /srv/box lost",
 }
 
 
 def examples_of_weft(room):
     """the examples of weft's manual page can be typed as they stand there"""
     needs("ssh-keygen", "openssh-client")
+    needs("openssl", "openssl")
     linked(room)
     words = re.findall(r"^\.SS weft (\w+).*?^\.nf\n(.*?)^\.fi$", (TOP / "weft/weft.1").read_text(), re.M | re.S)
     examples = {word: re.findall(r"^\$ (weft .*)$", plain(text), re.M) for word, text in words}
     environment = {**with_program(room.program), "HOME": str(room.folder), "XDG_DATA_HOME": "", "XDG_CONFIG_HOME": ""}
 
     def typed(command):
-        command = command.replace("/srv", f"{room.folder}/srv")
+        for place in ("/srv", "/backup"):
+            command = command.replace(f" {place}", f" {room.folder}{place}")
         return subprocess.run(["bash", "-c", command], cwd=room.folder, env=environment, capture_output=True, text=True, timeout=LONGEST)
 
     wrong = [f"  {word} has no example that is run" for word in examples if word not in BEFORE or not examples[word]]

@@ -3,6 +3,7 @@ judged by the module too, in one process of Node; behind that, changed ones, by 
 Node's test runner, the page in Chromium and in Firefox, as a user meets it, and whether it is put together of the sources that lie here.
 Where `node`, `wasm-opt` or a browser is missing, or the page isn't built, that is told as skipped."""
 
+import json
 import os
 import random
 import subprocess
@@ -11,7 +12,7 @@ import tempfile
 from itertools import islice
 
 import timeweave
-from example_files import low_of
+from example_files import high_of, low_of
 
 from cases import forks, maps
 from cases.library import try_some
@@ -19,12 +20,14 @@ from harness import library
 from harness.rooms import Skipped, Wrong, case, needs
 from harness.running import difference
 from harness.samples import exchange
+from harness.weft_room import Loom
 from harness.web import ASKED, FUNCTIONS, MODULE, PAGE, WEB, asked, built, has
 from timeweave_reference.histories import existence_proof
-from timeweave_reference.map_files import read_low
-from timeweave_reference.proofs import LinkProof
+from timeweave_reference.paths import climbed
+from timeweave_reference.proofs import read_link_proof
 from timeweave_reference.timelines import Timeline
-from timeweave_reference.verdicts import read_proof
+
+from weft import formats
 
 sys.path.append(str(WEB / "tests"))
 
@@ -114,15 +117,17 @@ def page_parts(room):
     run_tests(sorted(path for path in (WEB / "tests").glob("*.test.mjs") if path.name != OF_MODULE))
 
 
-# Of each proof with an authenticator, in hexadecimal, the link that the page would ask for; and what the page says first of a proof under lines of the reader's.
+# Of each file, in hexadecimal, what it shows: the lines that it tells, and of each step that it passes the link that the page would ask for of a line of zeros.
 LINKS = """
 import { readFileSync } from "node:fs";
-import { linkTo, openedStep } from "OPENED";
-for (const [proof, authenticator] of readFileSync(0, "utf8").trim().split("\\n").map((line) => line.split(" "))) {
-    const opened = openedStep(Uint8Array.from(Buffer.from(proof, "hex")));
-    console.log(opened ? Buffer.from(linkTo(opened, { authenticator })).toString("hex") : "none");
+import { linkTo, shownBy } from "OPENED";
+for (const file of readFileSync(0, "utf8").trim().split("\\n")) {
+    const { told, passed } = shownBy(Uint8Array.from(Buffer.from(file, "hex")));
+    const link = (it) => Buffer.from(linkTo(it, { authenticator: "00".repeat(32) })).toString("hex");
+    console.log(JSON.stringify({ told: told.map(({ service, step, authenticator }) => [service, step, authenticator]), passed: passed.map((it) => [it.service, it.step, it.top, link(it), it.under ?? null]) }));
 }
 """
+# What the page says first of each of these files under lines of the reader's.
 HEADS = """
 import { spawnSync } from "node:child_process";
 import { readFileSync, writeFileSync } from "node:fs";
@@ -157,32 +162,63 @@ def by_node(room, script, *words, given=""):
     return done.stdout.splitlines()
 
 
+def received_files(room):
+    """Files on what a service received, and its last line: a thread, two absences, and a link."""
+    loom = Loom(room)
+    for name in ("shop", "port", "zoo", "bank"):
+        loom.service(name, [name.encode()])
+    for name in ("shop", "port", "zoo"):
+        loom.put("message", loom.timeweave("thread", name, "0"))
+        loom.timeweave("receive", "bank", "message")
+    last = loom.append("bank", b"last")
+    words = ("thread 5 port 1", "absent 5 shop 7", "absent 4 mill 2", "link 2")
+    found = [loom.timeweave("prove", "bank", *it.split(), "5") for it in words]
+    return found, last
+
+
+def expect_shown(data, found):
+    """What the page reads of a file is what weft holds against kept lines: the same lines, and for each step that a path passes the link that the reference makes."""
+    lines = {(line.service, line.step): line.authenticator for line in formats.lines_shown(data, ())}
+    told = {(service, step): authenticator for service, step, authenticator in found["told"]}
+    passed = {(service, step) for service, step, *_ in found["passed"]}
+    tops = {(way.service, way.top) for way in formats.ways_in(data)}
+    if not told.items() <= lines.items() or not lines.keys() - tops <= told.keys() | passed <= lines.keys():
+        raise Wrong(f"  {sorted(lines)}\n  told: {sorted(told)}, passed: {sorted(passed)}")
+    for service, step, top, link, under in found["passed"]:
+        auth = bytes.fromhex(lines[service, step])
+        proof = read_link_proof(bytes.fromhex(link[:74]) + auth + bytes.fromhex(link[138:]))
+        held = under["authenticator"] if under else lines[service, top]
+        if (proof.service, proof.step, proof.top) != (service, step, top) or climbed(proof.path, top, step, auth).hex() != held:
+            raise Wrong(f"  the link of step {step} of {service} under step {top} isn't the one")
+
+
 def opened_steps(room):
-    """the page finds the step that a proof of any kind opens, or a low map file, with its path, as the reference does; and a proof that isn't of the history of a line that the reader
-    holds of that step isn't called shown, though no report tells its authenticator"""
+    """the page finds the lines that a proof of any kind or a map file shows besides its report, of steps that it opens, passes or received, as weft does; and what shows
+    another line than one that the reader holds isn't called shown, though no report tells it"""
     line = Timeline("shop", [[b"event"]] * 70)
-    proofs = [existence_proof(line, step, 0, top) for top in (1, 2, 3, 8, 31, 32, 33, 64, 70) for step in range(1, top + 1)]
-    proofs += [read_proof((WEB / "examples" / name).read_bytes()) for name in ("record.proof", "bound.proof", "word.proof")]
-    opened = [(it, it.step, it.path, it.opening) for it in proofs]
+    files = [existence_proof(line, step, 0, top).to_bytes() for top in (1, 2, 3, 8, 31, 32, 33, 64, 70) for step in range(1, top + 1)]
+    files += [(WEB / "examples" / name).read_bytes() for name in ("record.proof", "bound.proof", "word.proof")]
     own, peer = exchange()
-    lows = [read_low(low_of(own, step, peer.name, top)) for step in (1, 2, 5, 8, 9) for top in {step, 9}]
-    opened += [(it, it.step - 1, it.before.path, it.before.opening) for it in lows if it.before is not None]
-    asked = [(it, step, path, opening.authenticator(step)) for it, step, path, opening in opened]
-    asked += [(it, None, None, bytes(32)) for it in lows if it.before is None]
-    wanted = ["none" if step is None else LinkProof(it.service, step, it.top, auth, path).to_bytes().hex() for it, step, path, auth in asked]
-    found = by_node(room, LINKS, given="".join(f"{it.to_bytes().hex()} {auth.hex()}\n" for it, _, _, auth in asked))
-    if found != wanted:
-        raise Wrong(f"  {next((it for it, one, other in zip(asked, found, wanted) if one != other), len(found))}")
+    files += [low_of(own, step, peer.name, top) for step in (1, 2, 5, 8, 9) for top in {step, 9}]
+    files += [high_of(peer, top, own.name, step) for top in (1, 2, 5) for step in (1, 3)]
+    received, last = received_files(room)
+    for data, found in zip([*files, *received], by_node(room, LINKS, given="".join(f"{it.hex()}\n" for it in [*files, *received]))):
+        expect_shown(data, json.loads(found))
     other = Timeline("shop", [[b"event"]] * 20 + [[b"forged"]] + [[b"event"]] * 49)
     room.put("true", existence_proof(line, 31, 0, 70).to_bytes())
-    room.put("anew", existence_proof(other, 31, 0, 70).to_bytes())
-    for top, opened in ((line, line), (other, other), (other, line), (line, other)):
-        room.put("lines", f"shop 70 {top.auths[70].hex()}\nshop 31 {opened.auths[31].hex()}\n".encode())
-        name = "true" if top is line else "anew"
-        [head] = by_node(room, HEADS, room.program, "lines", name)
-        is_one = top is opened
-        if not head.startswith("yes | Shown | " if is_one else "no | Not shown: two lines | The line of step 31 of shop that you hold isn't of the history of this file"):
-            raise Wrong(f"  {name}: {head}")
+    for step in (30, 31, 32):
+        for is_one, opened in ((True, line), (False, other)):
+            room.put("lines", f"shop 70 {line.auths[70].hex()}\nshop {step} {opened.auths[step].hex()}\n".encode())
+            [head] = by_node(room, HEADS, room.program, "lines", "true")
+            if not head.startswith("yes | Shown | " if is_one else f"no | Not shown: two of your lines contradict each other | Two of your lines of shop contradict each other: this file goes with the one of step 70, and against the one of step {step}."):
+                raise Wrong(f"  step {step}: {head}")
+    for number, data in enumerate(received[:3]):
+        room.put(f"received-{number}", data)
+    for authenticator, wanted in ((None, "yes | Shown"), ("0" * 64, "no | Not shown: a line of yours contradicts the file")):
+        room.put("lines", f"{last}{f'shop 1 {authenticator}' if authenticator else ''}\n".encode())
+        heads = by_node(room, HEADS, room.program, "lines", "received-0", "received-1", "received-2")
+        if not all(head.startswith(wanted) for head in heads):
+            raise Wrong(f"  {heads}")
 
 
 def run_tests(paths):
@@ -232,26 +268,30 @@ def build_stops(room):
         raise Wrong(f"  statuses {found}")
 
 
-def in_browser(name):
+def in_browser(name, is_paper=False):
     def work(room):
         built()
         from browsers import is_there
         from made import all_made
-        from try_page import BROWSERS, tried
+        from try_page import BROWSERS, ON_PAPER, SITUATIONS, tried
 
         if not is_there(BROWSERS[name]):
             raise Skipped(f"there is no {BROWSERS[name].name}")
         with tempfile.TemporaryDirectory() as folder:
-            browser = BROWSERS[name](folder)
-            wrong = [f"  {situation.__doc__.strip()}\n  {said}" for situation, said in tried(browser, all_made(room.program, folder)) if said]
-            browser.close()
+            if is_paper:
+                needs("pdftotext", "poppler-utils")
+            made = all_made(room.program, folder)
+            with BROWSERS[name](folder) as browser:
+                wrong = [f"  {situation.__doc__.strip()}\n  {said}" for situation, said in tried(browser, made, ON_PAPER if is_paper else SITUATIONS) if said]
         if wrong:
             raise Wrong("\n".join(wrong))
 
-    work.__doc__ = f"the page in {name}, headless and without a connection"
+    work.__doc__ = f"the page's printed sheet, by {name}" if is_paper else f"the page in {name}, headless and without a connection"
     return work
 
 
 def cases():
-    for work in (each_proof, changed_proofs, node_tests, page_parts, opened_steps, of_these_sources, build_stops, in_browser("chromium"), in_browser("firefox")):
+    for work in (each_proof, changed_proofs, node_tests, page_parts, opened_steps, of_these_sources, build_stops, *map(in_browser, ("chromium", "firefox"))):
         yield case(work, "page")
+    for name in ("chromium", "firefox"):
+        yield case(in_browser(name, is_paper=True), "page")

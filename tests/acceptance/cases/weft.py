@@ -1,5 +1,5 @@
-"""Cases of weft, the companion of the program; those of each subject stand in the modules weft_deciding, weft_lines, weft_judging, weft_liars, weft_misled,
-weft_logs, weft_parts, weft_exchange, weft_signed, weft_peers, weft_files, weft_network, weft_search, weft_stores, weft_texts and weft_words.
+"""Cases of weft, the companion of the program; those of each subject stand in the modules weft_backups, weft_bundles, weft_clerk, weft_deciding, weft_keys, weft_lines, weft_judging, weft_liars,
+weft_misled, weft_readers, weft_logs, weft_parts, weft_exchange, weft_signed, weft_peers, weft_files, weft_network, weft_search, weft_stamps, weft_standing, weft_stores, weft_texts and weft_words.
 
 Each run of weft is forked from the process that has loaded it, with faults put in where a case wants them. So the acceptance run, which has threads,
 runs each of these cases in a process of its own (weft_cases.py)."""
@@ -8,15 +8,15 @@ import subprocess
 import sys
 
 from cases import (
-    weft_deciding, weft_exchange, weft_files, weft_judging, weft_liars, weft_lines, weft_logs, weft_misled, weft_network, weft_parts, weft_peers, weft_search, weft_signed,
-    weft_stores, weft_texts, weft_words,
+    weft_backups, weft_bundles, weft_clerk, weft_deciding, weft_exchange, weft_files, weft_judging, weft_keys, weft_liars, weft_lines, weft_logs, weft_misled, weft_network, weft_parts,
+    weft_peers, weft_readers, weft_recording, weft_roads, weft_search, weft_signed, weft_stamps, weft_standing, weft_stores, weft_texts, weft_words,
 )  # fmt: skip
 from harness.places import ACCEPTANCE
 from harness.rooms import SKIPPED
 
 MODULES = (
-    weft_deciding, weft_lines, weft_judging, weft_liars, weft_misled, weft_logs, weft_parts, weft_exchange, weft_signed, weft_peers, weft_files, weft_network, weft_search,
-    weft_stores, weft_texts, weft_words,
+    weft_bundles, weft_clerk, weft_deciding, weft_lines, weft_judging, weft_liars, weft_misled, weft_readers, weft_logs, weft_parts, weft_exchange, weft_signed, weft_peers, weft_files, weft_network, weft_recording,
+    weft_roads, weft_search, weft_stamps, weft_standing, weft_stores, weft_texts, weft_words, weft_backups, weft_keys,
 )  # fmt: skip
 MOST_SECONDS = 1800
 

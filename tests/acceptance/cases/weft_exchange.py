@@ -296,9 +296,10 @@ def unsigned_old_store(room):
     loom = net.loom
     net.night()
     loom.put("box-shop/bank/in/yours", f"shop {net.last('shop') + 5} {'a' * 64}\n")
-    before = net.last("shop")
+    before = loom.read("shop/timeline.tw")
     net.turn("shop", 17, "as bank says, unsigned", "--despite bank")
-    if net.last("shop") != before:
+    loom.expect("line shop", 17, "as bank told, unsigned; noted in shop.told")
+    if loom.read("shop/timeline.tw") != before:
         raise Wrong("  a step was made")
     loom.expect("exchange shop box-shop --despite bank", 10, "bank: it tells a line of your step", "passed over, by --despite bank")
 

@@ -14,11 +14,15 @@ from harness.rooms import Wrong, case, needs
 from harness.weft_room import Loom, expect_plain, weft_words
 
 WORDS = (
-    "keep {} --by mail", "keep l --signer shop {}", "keep l --by mail --kept {}", "keep l --signers {}", "tell {}", "judge {}", "judge p --kept {}",
+    "keep {} --by mail", "keep l --signer shop {}", "keep l --by mail --kept {}", "keep l --signers {}", "tell {}", "list {}", "judge {}", "judge p --kept {}",
     "judge p --file {}", "judge low {}", "judge --many {}", "line {}", "line shop --sign {}", "check {}", "check shop --kept {}", "log {} log data", "log src {}",
     "prove {} a", "exchange {} box", "exchange shop {}", "accept {} peer", "accept box peer {}", "accept box peer --key {}", "chain {} shop:2:0",
     "chain shop:1:0 {}", "chain shop:1:0 shop:2:0 --store {}", "chain shop:1:0 shop:2:0 --store shop --box {}",
-    "chain shop:1:0 shop:2:0 --store shop --hand {}", "chain shop:1:0 shop:2:0 --store shop --kept {}",
+    "chain shop:1:0 shop:2:0 --store shop --hand {}", "chain shop:1:0 shop:2:0 --store shop --for {}", "prove log a --for {}", "chain shop:1:0 shop:2:0 --store shop --kept {}",
+    "backup {} bu", "backup shop {} bu", "restore {} new", "restore old new --held {}", "status {}", "status shop {}",
+    "fetch {} box/peer", "fetch https://127.0.0.1:1/ {}", "publish {} src", "publish box {}", "record {} --event x", "find {} src/a",
+    "find log --text x --proofs {}", "stamp {} --url http://127.0.0.1:1/", "stamp l --url http://127.0.0.1:1/ --renew {}", "keep l --stamp {}", "keep {} --stamp p",
+    "keep --authority tsa {}", "bundle new {}", "bundle new p --line {}", "bundle new p --file {}", "judge p --authorities {}",
 )  # fmt: skip
 KNOWN = {0, 1, 2, 3, 4, 5, 6, 7, 8, 9, 10, 11, 12, 15, 16, 17, 20, 21}
 
@@ -35,6 +39,7 @@ def with_files(room):
     loom.put("box/box.conf", "unsigned = yes\n")
     (loom.folder / "box/peer/in").mkdir(parents=True)
     loom.put("box/peer/in/message", loom.timeweave("thread", "shop", "0"))
+    loom.expect("backup shop old", 0)
     return loom
 
 
@@ -71,8 +76,8 @@ def each_word(room):
                 raise Wrong(f"{told}\n  {used} s")
             if list(loom.folder.rglob("*.new")):
                 raise Wrong(f"{told}\n  half written: {list(loom.folder.rglob('*.new'))}")
-            if (loom.folder / "bad/missing").is_dir():
-                shutil.rmtree(loom.folder / "bad/missing")
+            for path in [loom.folder / "bad/missing", *loom.folder.glob("new*")]:
+                shutil.rmtree(path) if path.is_dir() else path.unlink(missing_ok=True)
 
 
 def unreadable_files(room):
@@ -196,7 +201,7 @@ def completed(room):
         raise Wrong("  weft/completion.bash isn't what python3 -m weft.completion makes")
     bash = needs("bash", "bash")
     script = 'source "$0"; COMP_WORDS=("$@"); COMP_CWORD=$(($# - 1)); _weft; printf "%s\n" "${COMPREPLY[@]}"'
-    files, folders = {"src", "shop", "box", "tmp", "p", "low", "l", "kept", "kept.lock", "shop.lock"}, {"src", "shop", "box", "tmp"}
+    files, folders = {"src", "shop", "box", "tmp", "p", "low", "l", "kept", "kept.lock", "shop.lock", "shop.backup", "old"}, {"src", "shop", "box", "tmp"}
     wanted = {
         "": {*weft_words.WORDS, "--help", "--version"}, "ju": {"judge"}, "judge ": files, "judge p ": files, "judge --many ": folders, "judge p --sv": {"--svg"},
         "judge --workers ": set(), "judge --workers 3 ": files, "log ": folders, "log src ": folders, "log src log ": set(), "keep --signer ": set(),

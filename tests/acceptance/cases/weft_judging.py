@@ -56,7 +56,7 @@ def sentences(room):
     loom.expect("judge link", 0, "Step 1 of maker, seen from its step 3, has the authenticator")
     loom.expect("judge chain", 0, "bank received step 1 of maker at its step 2", "Every hop is bound", "bank, step 3", "maker, step 3")
     loom.expect("judge loose", 1, "loose: shown in part", "only the receiver says", "--carried")
-    loom.expect("judge loose --carried", 0, "loose: shown in part", "CARRIED", "1 of 1 hops is carried")
+    loom.expect("judge loose --carried", 0, "loose: shown in part", "CARRIED", "word alone: ", "Not shown: only ", "What to do: Ask whoever sent it for the same proof with links")
     loom.expect("judge low2 high2", 0, "If maker and bank kept the rules: before its step 3, maker had received step 2 of bank", "Up to its step 3, bank received neither")
     loom.expect("judge high2 low2 bread3", 0)
     loom.expect("judge low", 12, "one of two map files", "Name the high one")
@@ -305,7 +305,7 @@ def other_kinds(room):
     loom.expect("tell empty", 9, "It is empty: ask for it again.")
     loom.expect("keep empty", 9, "empty is empty")
     for name in ("text", "picture"):
-        loom.expect(f"judge {name}", 9, f"{name} is no file of Timeweave", "Is it the right file?")
+        loom.expect(f"judge {name}", 9, f"{name} is no file of Timeweave", "Is it the document itself? Then its proof is missing", f"weft judge PROOF --file {name}")
         loom.expect(f"tell {name}", 9, "no format of Timeweave. Is it the right file?")
         loom.expect(f"keep {name}", 9, f"line 1 of {name} is no line of a service", absent=("--by",))
     loom.expect("judge line", 9, "line is a line, no proof: weft keep line.")

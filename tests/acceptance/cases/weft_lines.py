@@ -141,14 +141,18 @@ def by_hand(room):
 
 
 def no_lines(room):
-    """what is no line is refused by its number, and nothing is kept"""
+    """what is no line is refused by its number or by what was typed wrong, and nothing is kept"""
     loom = Loom(room)
     good = "shop 2 " + "a" * 64
-    for bad, number in (("", 1), ("x", 1), (good + "\nx", 2), (good + " ", 1), (good[:-1], 1), ("Shop 2 " + "a" * 64, 1), (good.replace("2", "02"), 1)):
+    for bad in ("", "x", "x\ny 3"):
         loom.put("line", bad)
-        loom.expect(["keep", "line", "--by", "mail"], 9, f"line {number} of line", "64 hexadecimal digits")
-    loom.put("line", f"shop {2**40} " + "a" * 64)
-    loom.expect(["keep", "line", "--by", "mail"], 9, "line 1 of line")
+        loom.expect(["keep", "line", "--by", "mail"], 9, "line 1 of line", "64 hexadecimal digits")
+    for bad, status, told in (
+        (good + "\nx", 10, "Other words stand beside the line of step 2 of shop"), (good[:-1], 9, "after 63 of 64 digits: group 16 has 3"),
+        (good.replace("2", "02"), 9, "64 digits stand behind no name and step"), (f"shop {2**40} {'a' * 64}", 9, "64 digits stand behind no name and step"),
+    ):  # fmt: skip
+        loom.put("line", bad)
+        loom.expect(["keep", "line", "--by", "mail"], status, told, "Nothing was kept")
     if loom.read("kept"):
         raise Wrong("  something was kept")
 

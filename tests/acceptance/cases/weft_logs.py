@@ -6,6 +6,7 @@ import json
 import os
 import shutil
 import subprocess
+from types import SimpleNamespace
 
 from harness.limits import without_rights
 from harness.places import LONGEST, TOP
@@ -153,7 +154,8 @@ def left_out(room):
 
 
 def made_amid(room):
-    """a step that somebody else makes while weft log is at work is told, counts, and its line is noted; entries with a line that is none are told as changed"""
+    """a step that somebody else makes while weft log is at work, or between, is told, counts, and its line is noted, whichever word notes it; entries with a line that is
+    none are told as changed"""
     loom = Loom(room)
     folder_of(loom, "a")
     loom.expect("log src log data", 0)
@@ -165,6 +167,12 @@ def made_amid(room):
     if loom.read("made").strip() not in loom.read("log.lines").splitlines():
         raise Wrong(f"  {loom.read('log.lines')}")
     loom.expect("log src log", 0, "2 as they were")
+    loom.put("box/box.conf", "unsigned = yes\n")
+    for words in ("line log", "exchange log box", "log src log"):
+        step = loom.append("log", b"by hand").split()[1]
+        told = f"step {step} of data: no run of weft log made such a step with events"
+        loom.expect(words, 10, told)
+        loom.expect(words, 0, absent=(told,))
     whole = loom.read("log.entries")
     for line in (b"9" * 5000 + b" 0 x\n", b"junk\n", digest(b"a") + b"  ./a\n"):
         loom.put("log.entries", whole + line)
@@ -420,12 +428,19 @@ def changed_while_read(room):
 
 
 def own_store(room):
-    """the log never logs itself, wherever it lies and by whatever links the folder and the service are named; what lies beside it is logged"""
+    """a log isn't begun within the folder whose files it logs; one that lies there never logs itself, by whatever links the folder and the service are named; what lies beside it
+    is logged, and what is put into the folder of its store is told"""
     loom = Loom(room)
     folder_of(loom, "a")
     os.symlink("src", loom.folder / "link")
     os.symlink("src/log", loom.folder / "service")
-    loom.expect("log link src/log data", 0, "1 file new")
+    (loom.folder / "src/below").mkdir()
+    for service in ("src/log", "src/below/log", "link/log"):
+        loom.expect(f"log src {service} data", 2, "would lie in src", "never be logged")
+    (loom.folder / "src/below").rmdir()
+    loom.expect("log link log data", 0, "1 file new")
+    for name in [it.name for it in loom.folder.iterdir() if it.name.split(".")[0] == "log"]:
+        (loom.folder / name).rename(loom.folder / "src" / name)
     for words in ("log link link/log", "log src service", "log link service", "log ./src/../link src/log/.", f"log {loom.folder}/link {loom.folder}/src/log/"):
         loom.expect(words, 0, "0 files new, 0 changed, 0 gone, 1 as they were")
     left = loom.put("src/.log.entries.0123456789abcdef.new", b"left by a run that was killed, or put there by somebody")
@@ -433,12 +448,56 @@ def own_store(room):
         loom.expect("log src src/log", 10, "0 files new, 0 changed, 0 gone, 1 as they were", "left out: ./.log.entries.0123456789abcdef.new: it is called as")
     left.unlink()
     loom.expect("log src src/log", 0, absent=("left out",))
+    for name in ("secret", "below/x", "part-x", "part-2.txt"):
+        strange = loom.put(f"src/log/{name}", b"x")
+        top = f"src/log/{name.split('/')[0]}"
+        loom.expect("log src src/log", 10, f"left out: ./{top.removeprefix('src/')}: it lies in the folder of the log itself")
+        shutil.rmtree(loom.folder / top) if (loom.folder / top).is_dir() else strange.unlink()
     loom.put("src/log.txt", b"x")
     loom.expect("log src src/log", 0, "1 file new")
     loom.expect("log src src", 2, "is the logged folder itself")
-    left = {it.name for it in loom.folder.iterdir()} - {"tmp", "kept"}
+    left = {it.name for it in loom.folder.iterdir()} - {"tmp", "kept", "kept.made"}
     if left != {"src", "link", "service"}:
         raise Wrong(f"  {left}")
+
+
+def unmounted(room):
+    """a log or register that was made under a name in a folder isn't made there once more where its store and all beside it aren't there, as where its device isn't mounted for
+    a night; one whose note was taken out is"""
+    loom = Loom(room)
+    folder_of(loom, "a")
+    for words, again in (("log src srv/log data", "log src srv/log data"), ("record srv/reg --name reg --event x", "record srv/reg --name reg --event y")):
+        (loom.folder / "srv").mkdir()
+        loom.expect(words, 0)
+        loom.expect(words, 0)
+        (loom.folder / "srv").rename(loom.folder / "tmp/away")
+        (loom.folder / "srv").mkdir()
+        name = words.split()[-1] if words.startswith("log") else "reg"
+        loom.expect(again, 17, f"{name} was made in ", "kept.made", "there is no store", "Is its device mounted?")
+        if list((loom.folder / "srv").iterdir()) not in ([], [loom.folder / "srv" / f"{words.split()[2 if name == 'data' else 1][4:]}.lock"]):
+            raise Wrong(f"  {list((loom.folder / 'srv').iterdir())}")
+        loom.expect(again.replace(" data", " data-b").replace("--name reg", "--name reg-b"), 0)
+        shutil.rmtree(loom.folder / "srv")
+        (loom.folder / "tmp/away").rename(loom.folder / "srv")
+        loom.expect(again, 0)
+        shutil.rmtree(loom.folder / "srv")
+    loom.put("kept.made", "".join(row for row in loom.read("kept.made").decode().splitlines(True) if not row.startswith("data ")))
+    (loom.folder / "srv").mkdir()
+    loom.expect("log src srv/log data", 0)
+
+
+def another_folder(room):
+    """that a log is of another folder than at its last run is told once, and counts; by whatever link its folder is named it is the same"""
+    loom = Loom(room)
+    folder_of(loom, "a", "b")
+    loom.expect("log src log data", 0)
+    os.symlink("src", loom.folder / "link")
+    loom.expect("log link log", 0, absent=("another folder",))
+    shutil.copytree(loom.folder / "src", loom.folder / "other")
+    loom.expect("log other log", 10, "log was the log of another folder than other at its last run")
+    loom.expect("log other log", 0, absent=("another folder",))
+    loom.expect("log src log", 10, "another folder than src")
+    loom.expect("log src log --all-read 0", 0)
 
 
 def kept_nowhere(room):
@@ -447,14 +506,15 @@ def kept_nowhere(room):
     loom = Loom(room)
     folder_of(loom, "a", "b")
     loom.put("box/box.conf", "unsigned = yes\n")
-    loom.expect("log src log data", 0, absent=("mistyped",), WEFT_KEPT="mistyped")
+    loom.expect("log src log data", 0, absent=("mistyped",), WEFT_KEPT=loom.folder / "mistyped")
     words, put_back = ("log src log", "exchange log box"), copied(loom)
     for word in words:
-        loom.expect(word, 10, "there is no file mistyped, which WEFT_KEPT names", WEFT_KEPT="mistyped")
+        loom.expect(word, 10, "/mistyped, which WEFT_KEPT names", WEFT_KEPT=loom.folder / "mistyped")
+        loom.expect(word, 2, "from this folder on", WEFT_KEPT="kept")
         loom.expect(word, 0, absent=("WEFT_KEPT",))
     before = loom.read("log/timeline.tw")
     for word in words:
-        loom.expect(word, 3, "src is a folder", WEFT_KEPT="src")
+        loom.expect(word, 3, "src is a folder", WEFT_KEPT=loom.folder / "src")
     if loom.read("log/timeline.tw") != before:
         raise Wrong("  a step was made")
     later = loom.read("log.anchor")
@@ -489,6 +549,72 @@ def looked_at_after_a_restore(room):
     loom.expect(["log", "src", "srv/shop", "--adopt-store", loom.run("line", "srv/shop").out.strip()], 0)
     for words in ("line srv/shop", "check srv/shop --all", "log src srv/shop"):
         loom.expect(words, 0, absent=("copy",))
+
+
+def own_lines_changed(room):
+    """where the line to hand out is written over, or a second line of a step is put among a log's own lines, no word goes on: the next run doesn't write it over in silence"""
+    loom = Loom(room)
+    for name in "abc":
+        folder_of(loom, name)
+        loom.expect(["log", "src", "log", *(["data"] if name == "a" else [])], 0)
+    anchor, lines = loom.read("log.anchor"), loom.read("log.lines")
+    words = ("log src log", "line log", "prove log a --out p", "check log")
+    for name, data in (("log.anchor", anchor[:-9] + b"00000000\n"), ("log.lines", lines + b"data 1 " + b"0" * 64 + b"\n"), ("log.lines", b"data 2 " + b"0" * 64 + b"\n" + lines)):
+        loom.put("log.anchor", anchor)
+        loom.put("log.lines", lines)
+        loom.put(name, data)
+        for word in words:
+            loom.expect(word, 17)
+        if loom.read(name) != data:
+            raise Wrong(f"  {name} was made anew")
+    loom.put("log.lines", lines)
+    for word in words:
+        loom.expect(word, 0)
+
+
+def read_twice(room):
+    """a file that was changed just now is read twice, and left out where both readings differ, though its times are the same; one at rest is read once; a run with --all reads
+    all; and no file of a service is written over by a name that --out has"""
+    loom = Loom(room)
+    folder_of(loom, "a", "b")
+
+    def mixed(moment):
+        def patch():
+            from weft import walking
+
+            real, count, clock = walking.read_once, [0], walking.time
+
+            def read_once(file, pause):
+                count[0] += 1
+                content = real(file, pause)
+                return content._replace(digest=b"%064x" % count[0])
+
+            walking.read_once = read_once
+            walking.time = SimpleNamespace(sleep=clock.sleep, time_ns=lambda: clock.time_ns() + moment * 10**9)
+
+        return patch
+
+    loom.expect("log src log data", 10, "left out: ./a: it was changed while it was read", "0 files new", patch=mixed(0))
+    loom.expect("log src log", 0, "2 files new", patch=mixed(120))
+    loom.expect("log src log --all-read 0", 0, "2 changed")
+    found = json.loads(loom.expect("log src log --all --json", 0).out)
+    if found["read"] != 2:
+        raise Wrong(f"  {found}")
+    store = loom.read("log/timeline.tw")
+    loom.put("a.line", loom.read("log.anchor"))
+    loom.key("a")
+    for out in ("log/timeline.tw", "log.lines", "log.seal", "log/part-2", "log.told"):
+        for words in ("keep a.line --by me --kept", "keep a.line --signer data a.key.pub --signers"):
+            loom.expect(f"{words} {out}", 2, "is a file of a service, and isn't written over")
+        loom.expect(f"backup log {out}", 2)
+    loom.expect("backup log good.backup", 0)
+    for words in ("restore good.backup log.told", "log src log.told other", "record log.told --name other --event x"):
+        loom.expect(words, 2, "is a file of a service, and isn't written over")
+        loom.expect(f"prove log a --out {out}", 2, "is a file of a service, and isn't written over")
+        loom.expect(f"line log --out {out}", 2, "is a file of a service, and isn't written over")
+    if loom.read("log/timeline.tw") != store:
+        raise Wrong("  the store was written over")
+    loom.expect("line log --out other.lines", 0)
 
 
 def copied_alone(room):
@@ -551,7 +677,7 @@ def fewer_files(room):
     loom.expect("log src other other --gone", 0, "0 files new")
     loom.put("file", b"")
     loom.expect("log other file data", 5, "file is a file. Name a folder for the service.")
-    if {it.name for it in loom.folder.iterdir()} - {"tmp", "kept", "src", "file", *(f"other{end}" for end in ("", ".lock", ".lines", ".anchor", ".entries", ".seal", ".known"))}:
+    if {it.name for it in loom.folder.iterdir()} - {"tmp", "kept", "kept.made", "src", "file", *(f"other{end}" for end in ("", ".lock", ".lines", ".anchor", ".entries", ".seal", ".known"))}:
         raise Wrong(f"  left behind: {sorted(it.name for it in loom.folder.iterdir())}")
     folder_of(loom, "a", "b", "c", "d", "e")
     loom.expect("log src log data", 0, "5 files new")
@@ -739,13 +865,13 @@ def proof_of_a_file(room):
         raise Wrong("  a proof under another line was written over one that was there")
     loom.expect("prove log ./paid.csv --top 1", 0)
     loom.expect("judge paid.csv.proof --file src/paid.csv", 0, "paid.csv is that file", "by mail")
-    loom.expect("judge paid.csv.proof --file src/sub/paid.csv", 1, "NOT SO")
+    loom.expect("judge paid.csv.proof --file src/sub/paid.csv", 1, "another file")
     loom.put("copy.csv", loom.read("src/paid.csv"))
     loom.expect("judge paid.csv.proof --file copy.csv", 10, "under the name paid.csv")
     loom.expect("prove log other --out o", 0, "in step 2")
     loom.expect("judge o", 12, "line of step 2 of data is missing", "its line of step 1 alone")
     loom.expect("prove log other --step 1 --top 1 --out o", 0, "in step 1")
-    loom.expect("judge o --file src/other", 1, "NOT SO")
+    loom.expect("judge o --file src/other", 1, "another file")
     loom.expect("prove log nothing", 7, "no entries of nothing")
     loom.expect("prove log other --top 1", 7, "from 2 to 2")
     loom.expect("prove log ../other", 7)
@@ -755,7 +881,7 @@ def proof_of_a_file(room):
 
 def cases():
     works = (
-        each_day, names_of_files, many_files, left_out, there_and_not_gone, unreadable_whole, replaced, changed_while_read, own_store, kept_nowhere, looked_at_after_a_restore, copied_alone,
+        each_day, names_of_files, many_files, left_out, there_and_not_gone, unreadable_whole, replaced, changed_while_read, own_store, kept_nowhere, unmounted, another_folder, looked_at_after_a_restore, own_lines_changed, read_twice, copied_alone,
         waiting_for_peers, fewer_files, claimed_times, refused, with_others, with_faults, first_run_with_faults, two_at_once,
         proof_of_a_file, made_amid, no_entries_by_hand, entries_written_over, written_over_alike, all_closed, without_proc, endless, proved_and_gone, deep_and_alone,
     )  # fmt: skip

@@ -39,7 +39,7 @@ def swapped(room):
     put_as_before(path, loom.read("bread3"))
     loom.expect("judge --many many --workers 1", 0, "2 files: 2 shown", "1 row of an earlier run was taken over")
     loom.expect("judge --many many --workers 1", 0, "2 files: 2 shown", "2 rows of an earlier run were taken over")
-    loom.put("more", f"maker 2 {OTHER}\n")
+    loom.put("more", f"maker 9 {OTHER}\n")
     loom.expect("keep more --by mail", 0)
     loom.expect("judge --many many --workers 1", 0, "2 files: 2 shown", absent=("taken over",))
 
@@ -138,6 +138,34 @@ def evidence_beside(room):
         told = f"TWO LINES: the line of step 1 of {name.split()[0]} that you kept"
         loom.expect("judge sent/evidence --kept held", 11, "sent/evidence: not shown", told)
         loom.expect("judge --many sent --workers 1 --kept held", 11, "1 not shown")
+        loom.put("held", f"{tops}{name} {OTHER} 2026-01-01T00:00:00Z signed by ED25519 SHA256:{'x' * 43}\n".encode())
+        loom.put("signers", "")
+        loom.expect("judge sent/evidence --kept held", 10, "sent/evidence: not judged", "A LINE THAT DOESN'T COUNT IS ANOTHER ONE", absent=(": shown",))
+        loom.expect("judge --many sent --workers 1 --kept held", 10, "1 not judged")
+
+
+def passed_on_the_way(room):
+    """a file whose path passes a step of which another line is kept isn't called shown, though it opens another step: a proof of an event, a link, a thread and an
+    absence, by name and in a table; nor is it judged where that line doesn't count"""
+    loom = Loom(room)
+    loom.service("shop", [b"one"], [b"two"], folder="old")
+    loom.service("shop", [b"one"], [b"anew"], [b"three"], folder="anew")
+    loom.service("bank", [b"b"])
+    loom.put("message", loom.timeweave("thread", "bank", "0"))
+    loom.timeweave("receive", "anew", "message")
+    for number in range(5):
+        loom.append("anew", b"%d" % number)
+    last = loom.append("anew", b"last")
+    passed = {"event 1 0": 8, "link 1": 2, "thread 5 bank 1": 6, "absent 4 mill 1": 8}
+    for words in passed:
+        loom.put("sent/proof", loom.timeweave("prove", "anew", *words.split(), "10"))
+        loom.put("held", last)
+        loom.expect("judge sent/proof --kept held", 0, "shown")
+        for more, status, told in (("", 11, "TWO LINES: the line of step"), (f" 2026-01-01T00:00:00Z signed by ED25519 SHA256:{'x' * 43}", 10, "not judged")):
+            loom.put("signers", "")
+            loom.put("held", f"{last}shop {passed[words]} {OTHER}{more}\n")
+            loom.expect("judge sent/proof --kept held", status, told, absent=(": shown",))
+            loom.expect("judge --many sent --workers 1 --kept held", status)
 
 
 def read_once(room):
@@ -254,13 +282,19 @@ def whose_lines(room):
 
 
 def carried_lines(room):
-    """a carried line that contradicts a kept one is told as two lines, with --carried and without; one that is the kept one is told too"""
+    """a carried line that contradicts a kept one is told as two lines, with --carried and without; one that is the kept one binds its hop, so nothing rests on a word"""
     loom = two_services(room)
     true = json.loads(loom.expect("judge link --json", 0).out)["text"].split()[-1]
-    for authenticator, status, carried, told in ((OTHER, 11, 11, "TWO LINES: the line of step 1 of maker that you kept"), (true, 1, 0, "one history")):
-        loom.put("two", loom.read("kept").decode() + f"maker 1 {authenticator} 2026-01-01T00:00:00Z by letter\n")
-        loom.expect("judge loose --kept two", status, told, "only the receiver says")
-        loom.expect("judge loose --carried --kept two", carried, told, "not shown" if carried else "shown in part", absent=(": shown\n",))
+    loom.put("two", loom.read("kept").decode() + f"maker 1 {OTHER} 2026-01-01T00:00:00Z by letter\n")
+    told = ("not shown: a line of yours contradicts the file", "TWO LINES: the line of step 1 of maker that you kept", "in doubt")
+    loom.expect("judge loose --kept two", 11, *told, "only the receiver says")
+    loom.expect("judge loose --carried --kept two", 11, *told)
+    loom.put("two", loom.read("kept").decode() + f"maker 1 {true} 2026-01-01T00:00:00Z by letter\n")
+    for words in ("judge loose --kept two", "judge loose --carried --kept two"):
+        loom.expect(words, 0, "loose: shown\n", "one history", "Every hop is bound", "maker, step 1, ", absent=("CARRIED", "word alone", "by link"))
+    found = json.loads(loom.expect("judge loose --kept two --json", 0).out)
+    if found["shown"] is not True or [it["service"] for it in found["lines"]] != ["bank", "maker"]:
+        raise Wrong(f"  {found}")
 
 
 def wrong_file(room):
@@ -273,7 +307,7 @@ def wrong_file(room):
     loom.expect(["keep", "log.anchor", "--by", "own"], 0)
     loom.expect("prove log deed", 0)
     loom.expect("judge deed.proof --file src/deed", 0, "deed.proof: shown", "is that file")
-    loom.expect("judge deed.proof --file deed", 1, "deed.proof: not shown: recorded, but not this file", "NOT SO", absent=(": shown",))
+    loom.expect("judge deed.proof --file deed", 1, "deed.proof: not shown: recorded, but not this file", "another file", absent=(": shown",))
     loom.expect("judge deed.proof --file deed --reference", 21, "not shown: recorded, but not this file")
     loom.expect("judge deed.proof --file copy", 10, "deed.proof: shown", "under the name deed")
     found = json.loads(loom.expect("judge deed.proof --file deed --json", 1).out)
@@ -287,7 +321,7 @@ def json_says_the_same(room):
     loom.put("forged", forged_of(loom, "bread3"))
     loom.put("junk", b"Dear Sir\n")
     loom.put("empty", b"")
-    wanted = {"bread3": ("shown", True, 0), "forged": ("not shown", False, 1), "junk": ("not judged", False, 9), "loose": ("shown in part", False, 1)}
+    wanted = {"bread3": ("shown", True, 0), "forged": ("not shown", False, 1), "junk": ("not judged", False, 9), "loose": ("shown in part: on somebody's word", False, 1)}
     told = [json.loads(line) for line in loom.expect(["judge", *wanted, "nowhere", "--json"], 1).out.splitlines()]
     found = {it["files"][0]: (it["headline"], it["shown"], it["status"]) for it in told}
     if found != {**wanted, "nowhere": ("not judged", False, 3)}:
@@ -462,11 +496,11 @@ def audited_once(room):
 def either_file(room):
     """of a proof that one event precedes another the file of each event is that one, and a file of neither is neither"""
     loom = received_amid(room)
-    loom.expect("judge good --file bank.files/paid", 0, "good: shown", "paid is the file that was logged as the later event, by its digest and name", absent=("NOT SO",))
+    loom.expect("judge good --file bank.files/paid", 0, "good: shown", "paid is the file that was logged as the later event, by its digest and name", absent=("another file",))
     loom.expect("judge good --file shop.files/sold", 0, "good: shown", "as the earlier event, by its digest and name")
     loom.put("copy", loom.read("bank.files/paid"))
     loom.expect("judge good --file copy", 10, "good: shown", "has the digest that was logged as the later event, under the name paid")
-    told = "isn't the file that was logged, neither as the earlier event nor as the later one"
+    told = "is another file: neither that of the earlier event nor that of the later one"
     loom.expect("judge good --file shop.files/next", 1, "good: not shown: recorded, but not this file", told)
 
 
@@ -487,18 +521,20 @@ def chain_of_two_lines(room):
 
 
 def named_and_missing(room):
-    """a file of kept lines that was named and isn't there, as one whose name was mistyped, ends the run before anything is called shown or good"""
+    """a file of kept lines that was named and isn't there, as one whose name was mistyped, ends the run before anything is called shown or good; so does one that WEFT_KEPT
+    names from the folder on that is stood in, which may be a sender's"""
     loom = received_amid(room)
     loom.put("ann", f"shop 2 {OTHER} 2026-01-01T00:00:00Z by letter\n")
-    if json.loads(loom.expect("check shop --json", 10, WEFT_KEPT="anm").out)["status"] != 10:
+    if json.loads(loom.expect("check shop --json", 10, WEFT_KEPT=loom.folder / "anm").out)["status"] != 10:
         raise Wrong("  JSON tells another status")
     chain = "chain shop:1:0 bank:3:0 --store shop --store bank --out c"
     for words, status in (("judge good", 11), ("check shop", 17), (chain, 11)):
         loom.expect(f"{words} --kept ann --kept kept", status, absent=(": shown",))
         for kept in ("--kept anm --kept kept", "--kept kept --kept anm"):
             loom.expect(f"{words} {kept}", 3, "there is no file anm", absent=(": shown", " good"))
-        loom.expect(words, 12 if words == "judge good" else 10, "there is no file anm, which WEFT_KEPT names", WEFT_KEPT="anm")
-        loom.expect(words, 0, absent=("there is no file",), WEFT_KEPT="kept")
+        loom.expect(words, 12 if words == "judge good" else 10, "/anm, which WEFT_KEPT names", WEFT_KEPT=loom.folder / "anm")
+        loom.expect(words, 2, "WEFT_KEPT names kept from this folder on", absent=("shown", "good"), WEFT_KEPT="kept")
+        loom.expect(words, 0, absent=("(WEFT_KEPT)",))
 
 
 def unchosen_names(room):
@@ -535,6 +571,6 @@ def nothing_to_judge(room):
 def cases():
     works = (
         swapped, believed, each_reader, history_beside, evidence_beside, read_once, hidden, made_anew, judges_of_histories_differ, whose_lines, carried_lines, wrong_file, json_says_the_same, cut_short,
-        passed_over, without_a_home, speaking_names, held_against_nothing, audited_once, either_file, chain_of_two_lines, named_and_missing, unchosen_names, nothing_to_judge,
+        passed_over, without_a_home, speaking_names, held_against_nothing, audited_once, either_file, chain_of_two_lines, passed_on_the_way, named_and_missing, unchosen_names, nothing_to_judge,
     )  # fmt: skip
     return [case(work, "weft judge misled") for work in works]

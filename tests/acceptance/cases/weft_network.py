@@ -4,6 +4,7 @@ proof that `strict` accepts; an old store, a fork and a squatter are told by nam
     PYTHONPATH=tests/acceptance python3 -m cases.weft_network PROGRAM [NIGHTS [SEED]]    plays it, and prints what each night told
 """
 
+import contextlib
 import os
 import random
 import shutil
@@ -14,14 +15,12 @@ from pathlib import Path
 from types import SimpleNamespace
 
 from cases.weft_exchange import Net, pair, received
-from harness.places import TOP
 from harness.rooms import Skipped, Wrong, case
 from harness.weft_room import reseal
-
-sys.path[:0] = [str(TOP / "bench")]
-
-import network  # noqa: E402
-import network_devices as devices  # noqa: E402
+from network import devices
+from network import play as played_network
+from network.web import Web
+from weft import program
 
 NAMES = [f"s{number}" for number in range(6)]
 LOST, LATE = 0.3, 0.1
@@ -32,6 +31,10 @@ LIAR, OLD, SQUATTED = "s1", "s4", "s2"
 NIGHTS = 30
 # Of a small device so many pages are free at most.
 MOST_PAGES = 24
+# A service asks for a peer's index, its files and what was sent on, twice in a night; and so many bytes of memory a run has.
+MOST_ASKED, MOST_MEMORY = 160, 256 << 20
+# Over the web this share of the ways has a hostile server in a night; in these nights some of them send without an end, are slow, or don't answer.
+CUT, WEB_SEED, MOST_WEB_PAIRS = 0.02, 2, 300
 
 
 def peers_of(number):
@@ -219,15 +222,39 @@ def fork_on(weave, number):
 
 
 def in_earnest(room):
-    """eight services weave for sixty nights (bench/network.py) while files are lost, doubled, late and damaged, runs and the program are killed and devices
+    """eight services weave for sixty nights (tests/play_network.py) while files are lost, doubled, late and damaged, runs and the program are killed and devices
     fail or are full: each order that receipts can show is shown and no other, no step is lost, a fork, an old store, a squatter and a flood are told, a
     dropped thread is shown, and nobody else is accused"""
     folder = Path(room.folder) / "network"
     folder.mkdir()
     with ProcessPoolExecutor(len(os.sched_getaffinity(0))) as executor:
-        wrong, figures = network.played(folder, room.program, 8, 60, 1, executor)
+        wrong, figures = played_network.played(folder, room.program, 8, 60, 1, executor)
     if wrong or figures.shown < 300:
         raise Wrong(f"  {wrong[:5]}\n  {figures}")
+
+
+def over_the_web(room):
+    """eight services weave for sixteen nights over one web server alone (tests/play_network.py), whose answers are hostile on one way in fifty a night, and the same
+    over folders, where nothing comes on these ways: each file by which a box keeps that a peer has two histories, and each service's last line, has the same bytes;
+    nobody who keeps the rules is accused, each order that receipts can show is shown and no other, a night asks a bounded number of times, and no run has more memory
+    than others"""
+    place = Path(room.folder) / "network"
+    # (the processes of the network are forked from this one, which may have looked for the program before)
+    os.environ["TIMEWEAVE_PROGRAM"] = os.path.abspath(room.program)
+    program.found.cache_clear()
+    for name in ("web", "folders"):
+        (place / name).mkdir(parents=True)
+        with contextlib.ExitStack() as stack:
+            web = stack.enter_context(contextlib.closing(Web(place / name / "web"))) if name == "web" else None
+            executor = stack.enter_context(ProcessPoolExecutor(len(os.sched_getaffinity(0))))
+            ways = played_network.Ways(cut=CUT, faulty=0, web=web, keys=None if web else place / "web")
+            # (where all steps are the same, so are the orders)
+            wrong, figures = played_network.played(place / name, room.program, 8, 16, WEB_SEED, executor, ways, MOST_WEB_PAIRS if web else 0)
+        if wrong or (web and not figures.shown) or figures.asked > MOST_ASKED or figures.memory > MOST_MEMORY:
+            raise Wrong(f"  {name}: {wrong[:5]}\n  {figures}")
+    wrong = played_network.compare_finds(played_network.finds_of(place / "web"), played_network.finds_of(place / "folders"))
+    if wrong:
+        raise Wrong("  " + "\n  ".join(wrong))
 
 
 def small_devices(room):
@@ -268,7 +295,7 @@ def copy(path, to):
 
 
 def cases():
-    return [case(work, "weft network") for work in (woven, liars, small_devices, in_earnest)]
+    return [case(work, "weft network") for work in (woven, liars, small_devices, in_earnest, over_the_web)]
 
 
 if __name__ == "__main__":

@@ -14,7 +14,7 @@ from cases.weft_logs import digest, entries_of, expect_log, folder_of
 from cases.weft_signed import signed
 from cases.weft_stores import long_history
 from harness.rooms import Wrong, case
-from harness.weft_room import SHARE, Loom, copied, each_fault, reseal
+from harness.weft_room import SHARE, Loom, copied, each_fault, faulty, reseal
 from timeweave_reference.histories import read_history, timeline_of
 from timeweave_reference.receipts import SIZE as RECEIPT_SIZE
 from timeweave_reference.receipts import Receipt, read_receipt
@@ -223,7 +223,7 @@ def by_many(room):
         loom.put(f"src/{number:03}/{'d/' * (number % 7)}f", str(number) * 100)
     found = []
     for workers in ("1", "4", "32"):
-        for path in Path(loom.folder).glob("log*"):
+        for path in [*loom.folder.glob("log*"), *loom.folder.glob("kept.made")]:
             shutil.rmtree(path) if path.is_dir() else path.unlink()
 
         def few_handles():
@@ -535,7 +535,7 @@ def five_parts(room):
     if not loom.timeweave("strict", "c", "log.anchor").startswith(b"accepted precedes"):
         raise Wrong("  strict refuses it")
     loom.expect("judge c --file src/0000", 0, "0000 is the file that was logged", "data-2 received step", "data-5 received step")
-    loom.expect("judge c --file src/0001", 1, "NOT SO")
+    loom.expect("judge c --file src/0001", 1, "another file")
     loom.expect("tell c", 0, "0000", "data-5")
     loom.expect("prove log last --out p", 0, "of data-5")
     loom.expect("judge p --file src/last", 0, "last is that file")
@@ -566,7 +566,7 @@ def strangers(room):
     loom.expect(["keep", "line", "--by", "mail"], 0)
     loom.put("src/goes on as evil", "x")
     loom.expect("log src log data", 2, "you keep a line of another service that is called data-2", "Choose another name")
-    loom.put("log.others", "data-2\n")
+    loom.put("kept.others", "data-2\n")
     names = in_parts(loom, 3)
     if names != ["data", "data-3", "data-4"]:
         raise Wrong(f"  {names}")
@@ -625,7 +625,10 @@ def part_destroyed(room):
     where the seal beside the first part was made anew"""
     loom = Loom(room)
     in_parts(loom, 2)
-    for note, *told in ((None, "data has ended, and goes on as data-2"), (b"2 data-2\n", "log.anchor has a line of step", "of data-2")):
+    ended, next_made_up = "data has ended, and goes on as data-2", b"2 data-2\n"
+    for note, is_noted, *told in ((None, True, ended), (next_made_up, True, ended), (next_made_up, False, "log.anchor has a line of step", "of data-2")):
+        if not is_noted:
+            (loom.folder / "kept.made").unlink()
         if note:
             loom.put("log.next", note)
             loom.put("log.seal", loom.read("log.seal").split(b"\n")[0] + b"\n")
@@ -713,7 +716,7 @@ def next_made_up(room):
 
 def part_made_again(room):
     """a part that was destroyed isn't made again where SERVICE.next is made up and its line is cut out of SERVICE.anchor, whether a store of its name stands in
-    its place or none, with the true first step: the seal beside the first part has it"""
+    its place or none, with the true first step: the seal beside the first part has it, and where it is cut out of that too, what is noted among the user's own files"""
     loom = Loom(room)
     in_parts(loom, 2)
     loom.put("m", loom.timeweave("thread", "log", "0"))
@@ -723,16 +726,56 @@ def part_made_again(room):
     for path in loom.folder.glob("log/part-2*"):
         shutil.rmtree(path) if path.is_dir() else path.unlink()
     loom.put("src/new", "new")
-    for is_there in (False, True):
-        if is_there:
+    for is_there, is_sealed in ((False, True), (False, False), (True, False), (True, True)):
+        if is_there and not is_sealed:
             shutil.copytree(loom.folder / "made", loom.folder / "log/part-2")
+        if not is_sealed:
+            loom.put("tmp/seal", loom.read("log.seal"))
+            loom.put("log.seal", loom.read("log.seal").split(b"\n")[0] + b"\n")
+        elif is_there:
+            loom.put("log.seal", loom.read("tmp/seal"))
         loom.put("log.anchor", loom.read("log.anchor").split(b"\n")[0] + b"\n")
         loom.put("log.next", b"2 data-2\n")
         (loom.folder / "log.known").unlink(missing_ok=True)
-        told = "stands beside it" if is_there else "data has ended, and goes on as data-2"
+        told = ("stands beside it" if is_sealed else "it may be an old one") if is_there else "data has ended, and goes on as data-2"
         loom.expect("log src log", 17, told, patch=small_parts())
     if b"data-2" in loom.read("log.anchor") or (loom.folder / "log/part-2.lines").exists():
         raise Wrong("  it was made again")
+
+
+def part_behind_an_older_backup(room):
+    """where a backup of before a part is put back, once all that told of it was lost, the next part has another name: of that one a history is out; a run that is killed while it
+    makes the new one is brought to its end"""
+    loom = Loom(room)
+    loom.put("src/first", "first")
+    loom.expect("log src log data", 0)
+    loom.expect("backup log old.backup", 0)
+    for number in range(2):
+        loom.put(f"src/{number}", f"of {number}")
+        loom.expect("log src log", 0, patch=small_parts(1))
+    if b"data-2 " not in loom.read("kept.made"):
+        raise Wrong(f"  {loom.read('kept.made')!r}")
+    for path in loom.folder.glob("log*"):
+        shutil.rmtree(path) if path.is_dir() else path.unlink()
+    loom.expect("restore old.backup log", 0)
+    line = loom.expect("line log", 10).out.strip()
+    for number in range(2, 4):
+        loom.put(f"src/{number}", f"of {number}")
+        loom.expect(["log", "src", "log", *(["--adopt-store", line] if number == 2 else [])], 0)
+    loom.put("src/last", "last")
+    back = copied(loom)
+
+    def check(done, told):
+        loom.run("log", "src", "log", patch=small_parts(1))
+        loom.run("log", "src", "log", patch=small_parts(1))
+        if not loom.read("log.anchor").split(b"\n")[-2].startswith((b"data-3 ", b"data-4 ")) or loom.run("check", "log").status:
+            raise Wrong(f"  {told}: {done}: {loom.read('log.anchor')!r}")
+
+    loom.expect("log src log", 0, "data goes on as data-3", patch=small_parts(1))
+    for at in range(1, 60, max(3, SHARE // 4)):
+        back()
+        done = loom.run("log", "src", "log", patch=lambda at=at: (small_parts(1)(), faulty(at, "before")()))
+        check(done, f"killed at call {at}")
 
 
 def part_alone(room):
@@ -802,14 +845,17 @@ def old_whole_log_put_back(room):
     put_back()
     loom.put("letter", later)
     loom.expect(["keep", "letter", "--by", "my own"], 0)
-    old, told = loom.read("log/timeline.tw"), ("you keep a line of step", "of data-2", "as a further part of data would be called", "echo data-2 >> log.others")
+    old, told = loom.read("log/timeline.tw"), ("you keep a line of step", "of data-2", "as a further part of data would be called", "echo data-2 >> ", "kept.others")
     for words in (["log", "src", "log"], ["exchange", "log", "box"], ["log", "src", "log", "--adopt-store", loom.read("log.anchor").decode().strip()]):
         loom.expect(words, 17, *told, "No step was made")
     loom.expect("check log --all", 10, *told, "1 of 1 step good")
     expect_one_status(loom, "check log --json", 10, "of data-2")
     if loom.read("log/timeline.tw") != old:
         raise Wrong("  a step was made")
-    loom.put("log.others", "data-2\n")
+    loom.put("log.others", "data-2\n")  # (whoever wrote over the store can write that too)
+    for words, status in (("log src log", 17), ("exchange log box", 17), ("prove log a --out p", 17), ("check log --all", 10)):
+        loom.expect(words, status, *told)
+    loom.put("kept.others", "data-2\n")
     for words in ("log src log", "check log --all", "exchange log box"):
         loom.expect(words, 0, absent=told)
 
@@ -1034,6 +1080,69 @@ def strangers_at_peers(room):
         raise Wrong(f"  {part_of(net, 'bank', 'shop')}: {keys}")
 
 
+def kept_of_another(room):
+    """a peer's next part isn't taken where the user keeps another line of its step, which two services of one name have, or two histories; nor is a line that a peer signs
+    passed over where he keeps another one of its step: both lines are told"""
+    net = pair(room)
+    loom = net.loom
+    net.night()
+    gone_on(net, "shop", "bank")
+    own = loom.run("line", "shop").out.split()
+    kept = loom.put("bank.kept", f"{own[0]} {own[1]} {'0' * 64} 2026-11-29T09:40:00Z by letter from shop-2\n")
+    keys = loom.read("box-bank/allowed_signers")
+    told = (f"TWO LINES: the line of step {own[1]} of shop-2 that you keep", "by letter from shop-2", "or two services have one name")
+    net.turn("bank", 10, "it goes on as shop-2, and that isn't taken", *told, absent=("both proved",), WEFT_KEPT=kept)
+    if loom.read("box-bank/allowed_signers") != keys or part_of(net, "bank", "shop") != "shop":
+        raise Wrong("  the part was taken")
+    for _ in range(2):
+        loom.append("shop/part-2", b"more")
+    net.turn("shop", 0)
+    net.carry("shop", "bank")
+    net.turn("bank", 10, "it goes on as shop-2, and that isn't taken", *told, absent=("both proved",), WEFT_KEPT=kept)  # (its line is of a later step by now)
+    take_part(net, "bank", "shop", "shop-2")
+    own = loom.run("line", "shop").out.split()
+    kept = loom.put("bank.kept", f"{own[0]} {own[1]} {'0' * 64} 2026-11-29T09:40:00Z by letter from shop-2\n")
+    net.turn("bank", 11, f"TWO LINES: the line of step {own[1]} of shop-2 that you keep", WEFT_KEPT=kept)
+
+
+def kept_of_another_step(room):
+    """where the user keeps a line of a peer's next part of a step of which what came shows nothing, the part is taken once a link shows that the line is of its history, and not
+    before, however many steps it makes until then; where the link shows another line of that step it isn't taken"""
+    net = pair(room)
+    loom = net.loom
+    net.night()
+    gone_on(net, "shop")
+    lines = [loom.append("shop/part-2", b"%d" % number).strip() for number in range(9)]
+    net.turn("shop", 0)
+    net.carry("shop", "bank")
+    back, how, kept = copied(loom), "2026-11-29T09:40:00Z by letter from shop-2", loom.folder / "tmp/kept"
+    waits = "no link has shown yet that it is of that history"
+
+    def is_unseen(line):
+        back()
+        kept.write_text(f"{line.rpartition(' ')[0]} {'0' * 64} {how}\n")
+        done = net.turn("bank", 10, "it goes on as shop-2, and that isn't taken", absent=("both proved",), WEFT_KEPT=kept)
+        return waits in done.out
+
+    unseen = next(line for line in lines if is_unseen(line))
+    name = unseen.rpartition(" ")[0]
+    for line, told in ((unseen, "both proved"), (f"{name} {'0' * 64}", "and the history of the line in its folder, of step ")):
+        back()
+        kept.write_text(f"{line} {how}\n")
+        for number in range(2):
+            net.turn("bank", 10, f"you keep its line of step {unseen.split()[1]} (", waits, absent=("both proved",), WEFT_KEPT=kept)
+            net.carry("bank", "shop")
+            loom.append("shop/part-2", b"more %d" % number)
+            if number:
+                loom.run("exchange", "shop", "box-shop")
+                net.carry("shop", "bank")
+        is_true = line == unseen
+        net.turn("bank", 0 if is_true else 10, told, absent=(waits,), WEFT_KEPT=kept)
+        if part_of(net, "bank", "shop") != ("shop-2" if is_true else "shop"):
+            raise Wrong(f"  bank knows {part_of(net, 'bank', 'shop')}")
+    net.turn("bank", 10, "it goes on as shop-2, and that isn't taken", "has another one", WEFT_KEPT=kept)
+
+
 def carried_wrongly(room):
     """a carrier who holds back what shows a peer's next part, brings it of before, changed or made up, or puts his own service there, has nothing taken for it,
     and nobody accused; after some turns that counts; once all is brought the part is taken"""
@@ -1126,7 +1235,7 @@ def revoked_at_the_part_before(room):
     take_part(net, "bank", "shop", "shop-2")
     whole = loom.read("box-bank/allowed_signers")
     left = b"".join(line for line in whole.splitlines(True) if not line.startswith(b"shop "))
-    told = ("was noted of shop-2 by itself", "has it no more of shop: nothing counts that it signs", "weft accept box-bank shop-2 --key")
+    told = ("it went on as shop-2", "shop-2 isn't taken for its part any more", "weft accept box-bank shop-2 --key")
     for again in (lambda: loom.put("box-bank/allowed_signers", whole), lambda: loom.expect("accept box-bank shop-2 --key shop.key.pub", 0)):
         loom.put("box-bank/allowed_signers", left)
         loom.append("shop/part-2", b"by the thief")
@@ -1139,6 +1248,42 @@ def revoked_at_the_part_before(room):
             raise Wrong("  what a key signed that was taken out was received")
         again()
         net.turn("bank", 0, "shop-2: its step", absent=told)
+        net.carry("bank", "shop")
+
+
+def ended_by_a_thief(room):
+    """who stole a peer's key ends it by a part of his own: once the key is taken out, and another one noted, that end counts no more, which is told, and the true service
+    is received again"""
+    net = pair(room)
+    loom = net.loom
+    net.night()
+    shutil.copytree(loom.folder / "shop", loom.folder / "thief")
+    line = loom.append("thief", b"goes on as shop-2")
+    step = line.split()[1]
+    (loom.folder / "thief-2").mkdir()
+    loom.timeweave("init", "thief-2", "shop-2")
+    loom.put("m", loom.timeweave("thread", "thief", "0"))
+    loom.timeweave("receive", "thief-2", "m")
+    into = "box-bank/shop/in"
+    loom.put(f"{into}/line", signed(loom, "shop", line.encode()))
+    loom.put(f"{into}/goes-on", loom.timeweave("prove", "thief", "event", step, "0", step))
+    loom.put(f"{into}/shop-2/line", signed(loom, "shop", loom.run("line", "thief-2").out.encode()))
+    loom.put(f"{into}/shop-2/came-from", loom.timeweave("prove", "thief-2", "thread", "1", "shop", step, "1"))
+    loom.run("exchange", "bank", "box-bank")
+    if part_of(net, "bank", "shop") != "shop-2":
+        raise Wrong("  the thief's part wasn't taken while his key counts")
+    keys = loom.read("box-bank/allowed_signers")
+    loom.put("box-bank/allowed_signers", b"".join(one for one in keys.splitlines(True) if not one.startswith(b"shop ")))
+    loom.key("new")
+    loom.expect("accept box-bank shop --key new.key.pub", 10, "is noted as the key of shop", absent=("has ended",))
+    loom.put("box-shop/box.conf", "key = ../new.key\n")
+    for _ in range(2):
+        loom.append("shop", b"true")
+        loom.run("exchange", "shop", "box-shop")
+        net.carry("shop", "bank")
+        shutil.rmtree(loom.folder / into / "shop-2", ignore_errors=True)
+        (loom.folder / into / "goes-on").unlink(missing_ok=True)
+        net.turn("bank", 10, "shop: it went on as shop-2", "isn't taken for its part any more", "shop: its step", absent=("shop-2: no new",))
         net.carry("bank", "shop")
 
 
@@ -1287,9 +1432,9 @@ def cases():
     works = (
         unread, changed_through_a_mapping, read_each_week, known_lost, added, by_many, entries_lost, entries_taken_out, older_content, older_part,
         put_back_together, checked_amid_a_step, five_parts,
-        strangers, true_stranger, part_destroyed, ended_by_hand, not_full_by_a_fault, next_made_up, part_made_again, part_alone, name_of_anothers_line, old_whole_log_put_back, logs_of_years,
+        strangers, true_stranger, part_destroyed, ended_by_hand, not_full_by_a_fault, next_made_up, part_made_again, part_behind_an_older_backup, part_alone, name_of_anothers_line, old_whole_log_put_back, logs_of_years,
         parts_with_faults, with_peers,
-        exchanged_in_parts, chained_over_peers_parts, exchange_with_faults, strangers_at_peers, carried_wrongly, stolen_after_the_end, revoked_at_the_part_before, away_for_parts,
+        exchanged_in_parts, chained_over_peers_parts, exchange_with_faults, strangers_at_peers, kept_of_another, kept_of_another_step, carried_wrongly, stolen_after_the_end, revoked_at_the_part_before, ended_by_a_thief, away_for_parts,
         old_part_put_back, other_history_for_a_new_part, chained_over, many_receipts, many_kept_lines,
         audited,
     )  # fmt: skip

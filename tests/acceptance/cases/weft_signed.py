@@ -9,10 +9,10 @@ from concurrent.futures import ProcessPoolExecutor
 from pathlib import Path
 
 from cases.weft_exchange import Net, pair, received
-from cases.weft_network import network
 from harness.places import TOP
 from harness.rooms import Wrong, case
 from harness.weft_room import Loom
+from network.play import Ways, played
 from weft import formats
 
 BEGIN, END = b"-----BEGIN SSH SIGNATURE-----\n", b"-----END SSH SIGNATURE-----\n"
@@ -59,7 +59,7 @@ def second_letter(room):
         loom.expect(["keep", first, "--by", "by letter"], 0)
         told = "at most one is of shop's history", "by letter", "by mail", "until you choose one: weft keep --choose FILE"
         loom.expect(["keep", second, "--by", "by mail"], 11, *told)
-        told = "there are two lines of step 2 of shop"
+        told = "here are two lines of step 2 of shop"
         for _ in range(2):
             loom.expect("judge proof", 11, told, "weft keep --choose", absent=("shown",))
         for name in ("true", "false"):
@@ -83,8 +83,8 @@ def second_letter(room):
         loom.expect("judge proof", 11, told, "was seen, and is no more in the file")
         loom.expect(["keep", "--choose", "true", "--by", "asked shop by telephone"], 0)
         loom.put("third", b"shop 2 " + b"7" * 64 + b"\n")
-        loom.expect(["keep", "third", "--by", "by mail"], 11, "there are 3 lines of step 2 of shop")
-        loom.expect("judge proof", 11, "there are 3 lines")
+        loom.expect(["keep", "third", "--by", "by mail"], 11, "here are 3 lines of step 2 of shop")
+        loom.expect("judge proof", 11, "here are 3 lines")
 
 
 def choices(room):
@@ -168,7 +168,7 @@ def handed_out(room):
     loom.expect("log --no-time src shop shop", 0)
     shutil.copytree(loom.folder / "shop", loom.folder / "tmp/old")
     loom.append("shop", b"by hand")
-    line = loom.expect("line shop", 0).out
+    line = loom.expect("line shop", 10, "no run of weft log made such a step").out
     if line.encode() not in loom.read("shop.lines"):
         raise Wrong(f"  {line} {loom.read('shop.lines')}")
     shutil.rmtree(loom.folder / "shop")
@@ -279,12 +279,18 @@ def dashes(room):
         loom.put(f"-{name}", loom.read(name))
     loom.put("-src/a", b"x")
     for words in (
-        ["keep", "--by", "mail", "--", "-true"], ["keep", "--by", "mail", "./-true"], ["tell", "--", "-proof", "-true"], ["judge", "--", "-proof"],
+        ["keep", "--by", "mail", "--", "-true"], ["keep", "--by", "mail", "./-true"], ["tell", "--", "-proof", "-true"], ["judge", "--", "-proof"], ["bundle", "--", "-z", "-proof"],
         ["line", "--", "-shop"], ["line", "--sign=-k.key", "--out=-out", "--", "-shop"], ["keep", "--signer", "shop", "./-k.key.pub", "--", "-out"],
         ["check", "--", "-shop"], ["log", "--no-time", "--", "-src", "-log", "data"], ["prove", "--out=-paid", "--", "-log", "a"],
+        ["backup", "--", "-log", "-backup"], ["restore", "--", "-backup", "-again"], ["status", "--", "-log"],
+        ["record", "--name", "reg", "--event=-x", "--", "-reg", "-src/a"], ["find", "--text=-x", "--", "-reg", "-src/a"], ["find", "--", "-reg", "./-src/a"],
     ):  # fmt: skip
         loom.expect(words, 0)
     loom.expect(["accept", "--key=-k.key.pub", "--", "-box", "bank"], 10, "is noted as the key of bank")
+    (loom.folder / "-www").mkdir()
+    loom.expect(["publish", "--", "-box", "-www"], 7, "-box is a box without a turn")
+    loom.expect(["stamp", "--url", "http://127.0.0.1:1/", "--", "-out"], 12, "you trust no time-stamping authority")
+    loom.expect(["fetch", "--", "https://127.0.0.1:1/", "-box/bank"], 10, "bank: 0 files came")
     told = "name a file as ./-FILE, or put -- in front"
     for words in (["keep", "--by", "mail", "-true"], ["line", "--out", "-x", "shop"], ["keep", "--signer", "-x", "./-k.key.pub"], ["judge", "-proof"]):
         loom.expect(words, 2, told)
@@ -746,12 +752,12 @@ def second_key(room):
 
 
 def appending_carrier(room):
-    """eight services weave for twenty-four nights (bench/network.py), and to one signed line in ten whoever carries it appends a made-up one: nobody is
+    """eight services weave for twenty-four nights (tests/play_network.py), and to one signed line in ten whoever carries it appends a made-up one: nobody is
     accused but who shows two histories, and all else is as it has to be"""
     folder = Path(room.folder) / "network"
     folder.mkdir()
     with ProcessPoolExecutor(len(os.sched_getaffinity(0))) as executor:
-        wrong, figures = network.played(folder, room.program, 8, 24, 1, executor, appended=0.1)
+        wrong, figures = played(folder, room.program, 8, 24, 1, executor, Ways(appended=0.1))
     if wrong or not figures.shown:
         raise Wrong(f"  {wrong[:5]}\n  {figures}")
 
@@ -777,7 +783,8 @@ def revoked_and_judged(room):
         loom.expect(words, 17 if words == "log src shop" else 10, *told, absent=("among the lines",))
     loom.expect("judge many/anew", 12, "You hold none of shop, and keep one that doesn't count: see below")
     loom.expect("judge many/anew --signers nowhere", 3, "there is no file nowhere")
-    loom.expect("judge many/anew", 12, "there is no file nowhere, which WEFT_SIGNERS names", *told, WEFT_SIGNERS="nowhere")
+    loom.expect("judge many/anew", 12, "/nowhere, which WEFT_SIGNERS names", *told, WEFT_SIGNERS=loom.folder / "nowhere")
+    loom.expect("judge many/anew", 2, "WEFT_SIGNERS names signers from this folder on", WEFT_SIGNERS="signers")
     loom.put("limited", loom.read("before").replace(b"namespaces=", b'valid-after="20200101",namespaces='))
     loom.expect("judge many/anew --signers limited", 0, "many/anew: shown", absent=told)
     found = json.loads(loom.expect("judge many/anew --json", 12).out)

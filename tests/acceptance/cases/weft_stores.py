@@ -201,7 +201,7 @@ def not_told_as_not_there(room):
 
 # Words that name a service's folder, `{f}`, and others that name another one; `{u}` leads from where they are typed to the folder of all.
 FOLDER_WORDS = (
-    ("check", "--", "{f}"), ("prove", "--out", "{u}out", "--", "{f}", "a"), ("line", "--", "{f}"), ("exchange", "--", "{f}", "{u}box"),
+    ("check", "--", "{f}"), ("list", "--", "{f}"), ("prove", "--out", "{u}out", "--", "{f}", "a"), ("line", "--", "{f}"), ("exchange", "--", "{f}", "{u}box"),
     ("log", "--", "{u}of-shop", "{f}"), ("chain", "--store={f}", "--out={u}out", "shop:1:0", "shop:2:0"),
 )  # fmt: skip
 OTHER_WORDS = (

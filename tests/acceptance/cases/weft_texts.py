@@ -165,6 +165,13 @@ def nobody_else_run(room):
     for folder in (downloads, downloads / "share/timeweave"):
         judged(folder / "weft/bin/weft", (20, 14))
     judged(TOP / "weft/bin/weft", (20,))
+    for name in ("timeweave", "ssh-keygen"):
+        loom.put(f"here/{name}", "#!/bin/sh\necho somebody else was run\n").chmod(0o755)
+    for path in (f"{bare['PATH']}:", f".:{bare['PATH']}", f"../here:{bare['PATH']}"):
+        words = [TOP / "weft/bin/weft", "judge", "--kept", "../line", "--", "../proof"]
+        done = subprocess.run(words, cwd=loom.folder / "here", env={**bare, "PATH": path}, capture_output=True, text=True, timeout=LONGEST)
+        if "somebody else" in done.stdout + done.stderr or done.returncode not in (0, 14):
+            raise Wrong(f"  PATH {path}\n  got    {done}")
     # the true one beside it is taken, and with another file in it, or one that was compiled of other sources, isn't run
     for folder in (downloads / "reference", downloads / "share/timeweave"):
         package = folder / "timeweave_reference"

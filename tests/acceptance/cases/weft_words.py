@@ -5,6 +5,7 @@ import errno
 import fcntl
 import json
 import os
+import shutil
 import subprocess
 import sys
 from importlib import import_module
@@ -12,6 +13,8 @@ from importlib import import_module
 from cases.weft_files import with_files
 from harness.rooms import Wrong, case, checked
 from harness.weft_room import SHARE, expect_plain, weft_words
+from weft.deciding.worst import worst_of
+from weft.statuses import Status
 
 FORGED, BEYOND, UNREAD, DASH, SECOND, PIPE, STOPPED, JSON = SITUATIONS = (
     "forged behind good", "beyond a file", "unread", "name with -", "second writer", "closed pipe", "Ctrl-C", "JSON of bad input",
@@ -20,14 +23,24 @@ FORGED, BEYOND, UNREAD, DASH, SECOND, PIPE, STOPPED, JSON = SITUATIONS = (
 # For each word the case of each situation, or in words why there is none; and what is the same of all others.
 TABLE = {
     "accept": {FORGED: "weft_words.forged_behind", BEYOND: "it reads no store", DASH: "weft_signed.dashes"},
+    "backup": {FORGED: "weft_backups.old_store_backed_up", BEYOND: "it reads no history", DASH: "weft_signed.dashes", SECOND: "weft_backups.at_once"},
+    "bundle": {FORGED: "weft_bundles.refused", BEYOND: "it reads no history", DASH: "weft_signed.dashes"},
     "chain": {FORGED: "weft_peers.made_up_answers", BEYOND: "weft_parts.chained_over", DASH: "weft_stores.odd_folders", SECOND: "weft_peers.chain_and_turn"},
     "check": {FORGED: "weft_words.forged_behind", BEYOND: "weft_stores.beyond_a_file", DASH: "weft_signed.dashes"},
     "exchange": {FORGED: "weft_signed.appended", BEYOND: "weft_parts.with_peers", DASH: "weft_stores.odd_folders"},
+    "fetch": {FORGED: "weft_roads.hostile_indexes", BEYOND: "it reads no store", DASH: "weft_signed.dashes"},
+    "find": {FORGED: "weft_recording.told_apart", BEYOND: "weft_recording.in_parts", DASH: "weft_signed.dashes"},
     "judge": {FORGED: "weft_misled.hidden", BEYOND: "weft_parts.audited", DASH: "weft_signed.dashes"},
     "keep": {FORGED: "weft_signed.behind_the_end", BEYOND: "it reads no store", DASH: "weft_signed.dashes"},
     "line": {FORGED: "weft_words.forged_behind", BEYOND: "weft_parts.five_parts", DASH: "weft_signed.dashes"},
+    "list": {FORGED: "weft_clerk.listed", BEYOND: "weft_clerk.listed_beyond_a_file", DASH: "weft_clerk.listed"},
     "log": {FORGED: "weft_logs.entries_written_over", BEYOND: "weft_parts.five_parts", DASH: "weft_signed.dashes"},
     "prove": {FORGED: "weft_words.forged_behind", BEYOND: "weft_parts.five_parts", DASH: "weft_signed.dashes"},
+    "publish": {FORGED: "weft_roads.not_published", BEYOND: "it reads no store", DASH: "weft_signed.dashes"},
+    "record": {FORGED: "weft_recording.told_apart", BEYOND: "weft_recording.in_parts", DASH: "weft_signed.dashes"},
+    "restore": {FORGED: "weft_backups.made_up", BEYOND: "it reads no history", DASH: "weft_signed.dashes"},
+    "stamp": {FORGED: "weft_stamps.from_elsewhere", BEYOND: "it reads no store", DASH: "weft_signed.dashes"},
+    "status": {FORGED: "weft_backups.watched", BEYOND: "weft_backups.watched", DASH: "weft_signed.dashes"},
     "tell": {FORGED: "weft_misled.hidden", BEYOND: "it reads no store", DASH: "weft_signed.dashes"},
 }
 OF_ALL = {
@@ -37,14 +50,17 @@ OF_ALL = {
 
 # Each word with good input, and the status with which it ends; and with bad input.
 GOOD = {
-    "accept": ("accept box peer", 10), "chain": ("chain shop:1:0 shop:2:0 --store shop --out c", 0), "check": ("check shop --workers 1", 0),
-    "exchange": ("exchange shop box", 10), "judge": ("judge p", 0), "keep": ("keep l --by again", 0), "line": ("line shop --out f", 0),
-    "log": ("log src log --no-time", 0), "prove": ("prove log a --out pr", 0), "tell": ("tell p", 0),
+    "accept": ("accept box peer", 10), "backup": ("backup shop box bu", 0), "bundle": ("bundle z p", 0), "chain": ("chain shop:1:0 shop:2:0 --store shop --out c", 0),
+    "check": ("check shop --workers 1", 0), "exchange": ("exchange shop box", 10), "fetch": ("fetch https://127.0.0.1:1/ box/peer", 10), "judge": ("judge p", 0), "keep": ("keep l --by again", 0),
+    "line": ("line shop --out f", 0), "list": ("list shop", 0), "log": ("log src log --no-time", 0), "prove": ("prove log a --out pr", 0),
+    "find": ("find log src/a", 0), "publish": ("publish box www", 0), "record": ("record reg --name reg --event again --no-time", 0),
+    "restore": ("restore old new", 0), "stamp": ("stamp l --url http://127.0.0.1:1/", 10), "status": ("status shop box", 10), "tell": ("tell p", 0),
 }  # fmt: skip
 BAD = {
-    "accept": ("accept box NAME", 2), "chain": ("chain shop:1:0 nothing", 2), "check": ("check nothing", 5), "exchange": ("exchange nothing box", 5),
-    "judge": ("judge nothing", 3), "keep": ("keep nothing --by mail", 3), "line": ("line nothing", 5), "log": ("log nothing log", 3), "prove": ("prove log nothing", 7),
-    "tell": ("tell nothing", 3),
+    "accept": ("accept box NAME", 2), "backup": ("backup nothing bu", 5), "bundle": ("bundle z nothing", 3), "chain": ("chain shop:1:0 nothing", 2), "check": ("check nothing", 5),
+    "exchange": ("exchange nothing box", 5), "fetch": ("fetch nothing box/peer", 2), "judge": ("judge nothing", 3), "keep": ("keep nothing --by mail", 3), "line": ("line nothing", 5), "list": ("list nothing", 3),
+    "log": ("log nothing log", 3), "prove": ("prove log nothing", 7), "publish": ("publish nothing www", 5), "restore": ("restore nothing new", 3), "stamp": ("stamp nothing --url http://127.0.0.1:1/", 3), "status": ("status nothing", 5),
+    "find": ("find log nothing", 3), "record": ("record reg nothing", 3), "tell": ("tell nothing", 3),
 }  # fmt: skip
 
 
@@ -55,7 +71,17 @@ def places(room):
     loom.expect("log src log data --no-time", 0)
     last = loom.run("line", "shop").out.strip()
     loom.expect(["exchange", "shop", "box", "--adopt-store", last], 10)
+    (loom.folder / "old").unlink()
+    loom.expect("backup log old", 0)
+    (loom.folder / "www").mkdir()
+    loom.put(".config/weft/authorities/tsa.pem", "-----BEGIN CERTIFICATE-----\nMAA=\n-----END CERTIFICATE-----\n")
     return loom
+
+
+def begin_anew(loom):
+    """Takes away what was put back, so that it can be put back once more."""
+    for path in loom.folder.glob("new*"):
+        shutil.rmtree(path) if path.is_dir() else path.unlink()
 
 
 def table():
@@ -94,7 +120,7 @@ def forged_behind(room):
 def second_writer(room):
     """while another run is at work on what a word writes, the word ends with 15 and changes nothing; a word that only reads goes on"""
     loom = places(room)
-    own = {"accept": "box/.lock", "check": "shop.lock", "exchange": "box/.lock", "keep": "kept.lock", "line": "shop.lock", "log": "log.lock"}
+    own = {"accept": "box/.lock", "check": "shop.lock", "exchange": "box/.lock", "fetch": "box/.lock", "publish": "box/.lock", "keep": "kept.lock", "line": "shop.lock", "log": "log.lock", "record": "reg.lock", "backup": "shop.lock", "restore": "new.lock"}
 
     def at_once():
         from weft import locks
@@ -170,6 +196,7 @@ def interrupted(room):
         if not number:
             raise Wrong(f"  {words} calls nothing")
         for at in range(1, number + 1, max(1, SHARE * number // 12)):
+            begin_anew(loom)
             done = loom.run(*words.split(), patch=stopping(at, counter))
             expect_plain(done, words.split())
             is_late = done.status == status  # (it had done its work, or could do without what was interrupted)
@@ -177,6 +204,8 @@ def interrupted(room):
                 raise Wrong(f"  {words}, interrupted at call {at}: {done}")
             if list(loom.folder.rglob("*.new")):
                 raise Wrong(f"  {words}, interrupted at call {at}, left {list(loom.folder.rglob('*.new'))}")
+            if is_late:
+                begin_anew(loom)
             loom.expect(words, status)
 
 
@@ -185,6 +214,7 @@ def bad_input_in_json(room):
     none"""
     loom = places(room)
     for word in weft_words.WORDS:
+        begin_anew(loom)
         words, status = GOOD[word]
         found = rows(loom.expect(f"{words} --json", status))
         if not found:
@@ -201,6 +231,51 @@ def bad_input_in_json(room):
     done = loom.run("tell", "--json", "l", patch=lambda: failing_reads("l"))
     if done.status != 3 or not any("can't be read" in str(row) for row in rows(done)):
         raise Wrong(f"  a file that can't be read: {done}")
+
+
+def one_status_in_json(room):
+    """with --json the worst status that a run writes is the one with which it ends, and one that writes none ends with 0: each word with good and with bad input, with
+    several files, and where it asks for a look or what it writes fails"""
+    loom = places(room)
+    for word, good in GOOD.items():
+        for words, status in (good, BAD[word]):
+            begin_anew(loom)
+            expect_one_status(loom.expect(f"{words} --json", status), words)
+    shutil.copytree(loom.folder / "log", loom.folder / "copy")
+    for path in loom.folder.glob("log.*"):
+        shutil.copy2(path, loom.folder / f"copy{path.suffix}")
+    for word in ("line", "list"):
+        expect_one_status(loom.expect(f"{word} copy --json", 10), f"{word} of a copy")
+    loom.put("other", f"shop 2 {'ab' * 32}\n")
+    loom.put("many/p", loom.read("p"))
+    loom.put("many/l", loom.read("l"))
+    loom.put("many.table", "")
+    loom.key("k")
+    for words, status in (
+        ("judge p l nothing", 9), ("judge --many many --table t", 9), ("judge p --kept other", 1), ("tell p l nothing", 3), ("keep other --by mail", 11),
+        ("keep other --choose --by mail", 0), ("keep --signer shop k.key.pub", 0), ("check shop --kept other --workers 1", 17),
+    ):  # fmt: skip
+        expect_one_status(loom.expect(f"{words} --json", status), words)
+    for path in (loom.folder / "src").iterdir():
+        path.unlink()
+    expect_one_status(loom.expect("log src log --json", 16), "log of a folder without files")
+    expect_one_status(loom.expect("line log --out f2 --json", 5, "No space left", patch=full_disk), "line with a full disk")
+
+
+def full_disk():
+    """Lets no file be replaced."""
+
+    def replaced(*words, **more):
+        raise OSError(errno.ENOSPC, os.strerror(errno.ENOSPC))
+
+    os.replace = replaced
+
+
+def expect_one_status(done, told):
+    """The run ended with the worst of the statuses that it wrote, and with 0 if it wrote none."""
+    found = [row["status"] for row in rows(done) if "status" in row]
+    if worst_of(map(Status, found)) != done.status:
+        raise Wrong(f"  weft {told}: the statuses {found} in JSON, and the run ended with {done.status}\n  {done}")
 
 
 def failing_reads(name):
@@ -224,5 +299,5 @@ def rows(done):
 
 
 def cases():
-    works = (forged_behind, second_writer, closed_pipe, interrupted, bad_input_in_json)
+    works = (forged_behind, second_writer, closed_pipe, interrupted, bad_input_in_json, one_status_in_json)
     return [*checked("weft words", {table.__doc__: lambda program: table()}), *(case(work, "weft words") for work in works)]

@@ -1,4 +1,4 @@
-"""Where things are in the repository, and how long a run may take; importing this module makes the reference and the tools importable."""
+"""Where things are in the repository, and how long a run may take; importing this module makes weft, the reference, the tools and the network importable."""
 
 import sys
 from pathlib import Path
@@ -10,7 +10,7 @@ FOUND = CASES / "found"
 TOP = ACCEPTANCE.parent.parent
 MANUAL = TOP / "docs/timeweave.1"
 
-for folder in (TOP / "reference", TOP / "tools", TOP / "bindings/python"):
+for folder in (TOP, TOP / "reference", TOP / "tools", TOP / "bindings/python", TOP / "tests"):
     if str(folder) not in sys.path:
         sys.path.insert(0, str(folder))
 

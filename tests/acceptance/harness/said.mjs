@@ -2,12 +2,12 @@
 import { readFileSync } from "node:fs";
 import { readBounds, readContradiction, readFork, readReport } from "../../../web/timeweave.mjs";
 import {
-    carriedNotes, conflictWords, forkNotes, headline, hopsSentence, mapNotes, reasonWords, shownLineNotes, shownSentence, timeNote,
+    askForLinks, boundSentence, conflictWords, forkNotes, headline, mapNotes, reasonWords, shownLineNotes, shownSentence, timeNotes, wordNotes,
 } from "../../../web/page/words.mjs";
 
 const ofReport = (report) => [
-    shownSentence(report), ...report.events.filter(({ time }) => time !== undefined).map(timeNote), ...shownLineNotes(report, []), ...carriedNotes(report, []),
-    ...(report.hops.length ? [hopsSentence(report)] : []), ...forkNotes(report), ...mapNotes(report),
+    shownSentence(report), ...wordNotes(report, []), ...timeNotes(report), ...shownLineNotes(report, []),
+    ...(report.carried.length ? [askForLinks(report)] : report.hops.length ? [boundSentence()] : []), ...forkNotes(report), ...mapNotes(report),
 ];
 const empty = { events: [], hops: [], carried: [] };
 const SAID = {

@@ -71,7 +71,7 @@ class Inside:
         self.runs = 0
         self.stores, self.answers, self.keys, self.written = {}, {}, {}, None
         self.env = {
-            "PATH": os.environ["PATH"], "TIMEWEAVE_PROGRAM": str(program_path), "HOME": self.folder, "WEFT_SIGNERS": "signers", "LC_ALL": "C.UTF-8",
+            "PATH": os.environ["PATH"], "TIMEWEAVE_PROGRAM": str(program_path), "HOME": self.folder, "WEFT_SIGNERS": f"{self.folder}/signers", "LC_ALL": "C.UTF-8",
             "TMPDIR": f"{self.folder}/tmp",
         }  # fmt: skip
 
@@ -80,7 +80,7 @@ class Inside:
     def run(self, *words, fault=NO_FAULT, kept="kept"):
         """Runs weft, of a user who keeps lines in this file, or in none."""
         os.environ.pop("WEFT_KEPT", None)
-        os.environ.update({"WEFT_KEPT": kept} if kept else {})
+        os.environ.update({"WEFT_KEPT": f"{self.folder}/{kept}"} if kept else {})
         streams = sys.stdin, sys.stdout, sys.stderr
         out, err = io.StringIO(), io.StringIO()
         sys.stdin, sys.stdout, sys.stderr = io.StringIO(), out, err

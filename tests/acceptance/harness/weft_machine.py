@@ -70,7 +70,6 @@ class Machine:
         """Runs weft at a service's machine, at its clock, with the fault that waits; it ends as its word does. The reader alone keeps lines: nobody who runs a service is
         told by his own that its store is an old one."""
         self.inside.moment = BEGAN + self.clock.get(name, 0)
-        os.environ["WEFT_KEPT"] = "kept" if name == "reader" else "kept of keepers"
         fault, self.fault = self.fault, Fault()
         done = self.inside.run(*words, fault=fault, kept="kept" if name == "reader" else None)
         weft_model.expect_told(done, words, fault, ends)
@@ -187,7 +186,8 @@ class Machine:
         before, entries = self.history("shop"), self.logged_events()
         words = ["log", "files", "shop", "--workers", "1", *(["--all-read", "0"] if a % 4 == 0 else []), *(["--gone"] if b % 7 == 0 else [])]
         self.excuse("shop", before)
-        may_wait = self.is_log_moved or (self.place / "shop.look").exists()
+        is_forged = not self.model.is_honest("shop") and (self.place / "shop.told").exists()  # (a turn saw a line of the other history)
+        may_wait = self.is_log_moved or is_forged or (self.place / "shop.look").exists()
         done, has_fault = self.run("shop", words, (0, 10, 16, *([17] if may_wait else [])))
         self.is_log_moved = may_wait and done.status not in (0, 10)
         weft_model.expect_one_history(self.model, "shop", before, self.history("shop"))

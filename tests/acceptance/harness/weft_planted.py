@@ -65,7 +65,7 @@ FAULTS = (
     ),
     Planted(
         "a line counts as signed whoever signed it", "exchange",
-        "            key = signatures.checked(signed, self.signers)\n",
+        "            key = signatures.checked(signed, self.signers, self.when_kept(signed) if signatures.has_days(self.signers, signed.line.service) else None)\n",
         '            key = "ED25519 SHA256:" + "x" * 43\n',
     ),
     Planted(

@@ -1,26 +1,18 @@
 """Rooms for the acceptance cases of weft: a folder of one's own, weft run in a process of its own, and faults at each of its writes."""
 
-import errno
 import os
 import shutil
 import signal
 import subprocess
-import sys
-import tempfile
-import time
-import traceback
 from pathlib import Path
-from typing import NamedTuple
 
 from harness.places import LONGEST, TOP
 from harness.rooms import Wrong
+from network import faults, forked
 from timeweave_reference.events_files import events_to_bytes
 
-sys.path[:0] = [str(TOP)]
-
-from weft import files  # noqa: E402
-from weft import words as weft_words  # noqa: E402
-from weft.main import main as weft_main  # noqa: E402
+from weft import files
+from weft import words as weft_words
 
 # (all words are loaded once, and each run is forked from this process)
 for word in weft_words.WORDS:
@@ -30,12 +22,8 @@ for word in weft_words.WORDS:
 SHARE = int(os.environ.get("WEFT_SHARE", "1"))
 
 
-class Done(NamedTuple):
-    """How a run of weft ended: its status, negative of a signal, and what it wrote."""
-
-    status: int
-    out: str
-    err: str
+# How a run of weft ended: its status, negative of a signal, and what it wrote.
+Done = forked.Ended
 
 
 def events_file(*events):
@@ -101,38 +89,11 @@ class Loom:
 
     def run(self, *words, patch=None, **env):
         """Runs weft in a process of its own, forked from this one; `patch` is called there first."""
-        with tempfile.TemporaryFile() as out, tempfile.TemporaryFile() as err:
-            sys.stdout.flush()
-            sys.stderr.flush()
-            child = os.fork()
-            if child == 0:
-                os._exit(self.in_child(words, out, err, patch, env))
-            status = waited(child)
-            out.seek(0)
-            err.seek(0)
-            return Done(status, out.read().decode("utf-8", "surrogateescape"), err.read().decode("utf-8", "surrogateescape"))
-
-    def in_child(self, words, out, err, patch, env):
-        """What the forked process does."""
-        try:
-            os.chdir(self.folder)
-            null = os.open(os.devnull, os.O_RDONLY)
-            os.dup2(null, 0)
-            os.dup2(out.fileno(), 1)
-            os.dup2(err.fileno(), 2)
-            sys.stdin, sys.stdout, sys.stderr = open(0, closefd=False), open(1, "w", closefd=False), open(2, "w", closefd=False)
-            os.environ.clear()
-            os.environ.update({name: str(value) for name, value in {**self.env, **env}.items() if value is not None})
-            tempfile.tempdir = None
-            if patch:
-                patch()
-            status = weft_main([str(word) for word in words])
-            sys.stdout.flush()
-            sys.stderr.flush()
-            return status
-        except BaseException:
-            os.write(2, traceback.format_exc().encode())
-            return 99
+        settings = {name: str(value) for name, value in {**self.env, **env}.items() if value is not None}
+        done = forked.run(self.folder, settings, [str(word) for word in words], patch, LONGEST)
+        if done.status == -signal.SIGALRM:
+            raise Wrong(f"  a run of weft took longer than {LONGEST} seconds")
+        return done
 
     def expect(self, words, status, *texts, absent=(), **settings):
         """Runs weft; what it wrote has these texts, and it ended with this status. Nothing of it is raw or a traceback."""
@@ -153,72 +114,13 @@ def expect_plain(done, words):
         raise Wrong(f"  weft {' '.join(map(str, words))[:200]!r} wrote {raw[:5]!r} raw, or a traceback\n  {both[-1500:]!r}")
 
 
-def waited(child):
-    """The status of a forked process; it is killed after some minutes."""
-    until = time.monotonic() + LONGEST
-    while time.monotonic() < until:
-        found, status = os.waitpid(child, os.WNOHANG)
-        if found:
-            return -os.WTERMSIG(status) if os.WIFSIGNALED(status) else os.WEXITSTATUS(status)
-        time.sleep(0.002)
-    os.kill(child, signal.SIGKILL)
-    os.waitpid(child, 0)
-    raise Wrong(f"  a run of weft took longer than {LONGEST} seconds")
-
-
 # ---- faults
-
-CALLS = ("write", "fsync", "replace", "unlink", "mkdir")
 
 
 def faulty(at, kind, counter=None):
     """What makes the process fail at its call of this number, from 1 on, of those that write files or run the program: `before` kills it there,
     `half` amid a write, `ENOSPC` and `EIO` let the call fail. The number of calls goes to the file `counter`, if one is named."""
-
-    count = [0]
-
-    def reached():
-        count[0] += 1
-        if counter:
-            number = os.open(counter, os.O_WRONLY | os.O_CREAT | os.O_TRUNC)
-            REAL["write"](number, str(count[0]).encode())
-            os.close(number)
-        return count[0] == at
-
-    def kill():
-        os.kill(os.getpid(), signal.SIGKILL)
-
-    def wrapped(name, real):
-        def call(*words, **more):
-            if name == "write" and words[0] in (1, 2):
-                return real(*words, **more)
-            is_here = reached()
-            if is_here and kind in ("ENOSPC", "EIO"):
-                raise OSError(getattr(errno, kind), os.strerror(getattr(errno, kind)))
-            if is_here and kind == "half" and name == "write":
-                real(words[0], bytes(words[1])[: len(words[1]) // 2])
-            if is_here and kind in ("before", "half"):
-                kill()
-            return real(*words, **more)
-
-        return call
-
-    def patch():
-        for name in CALLS:
-            setattr(os, name, wrapped(name, REAL[name]))
-        real = subprocess.run
-
-        def run(*words, **more):
-            if kind == "before" and reached():
-                kill()
-            return real(*words, **more)
-
-        subprocess.run = run
-
-    return patch
-
-
-REAL = {name: getattr(os, name) for name in CALLS}
+    return lambda: faults.put_in(faults.Fault(kind, at), counter=counter)
 
 
 def reseal(folder):
