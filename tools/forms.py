@@ -16,6 +16,9 @@ sys.path.insert(0, str(TOP / "reference"))
 
 from timeweave_reference import words  # noqa: E402
 
+# Words of which the README says nothing: the manual page has them.
+MANUAL_ALONE = {"atlas", "watch", "offer", "heads", "replay", "generate"}
+
 COMPLETION, README, MANUAL = TOP / "tools/completion.bash", TOP / "README.md", TOP / "docs/timeweave.1"
 
 
@@ -60,7 +63,8 @@ def listed():
     width = max(map(len, forms())) + 3
     lines = []
     for group, of_group in groups().items():
-        lines += [f"    to {group}", *(f"      {form:{width}}{does}" for form, does in of_group)]
+        rows = [f"      {form:{width}}{does}" for form, does in of_group if form.split()[0] not in MANUAL_ALONE]
+        lines += [f"    to {group}", *rows] if rows else []
     return "".join(f"{line}\n" for line in lines)
 
 
