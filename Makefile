@@ -11,7 +11,7 @@ LIBDIR ?= $(PREFIX)/lib
 # Names of crates, for `make wrong-bodies`.
 NAMES ?=
 
-.PHONY: look build demo test check crash fuzz fuzz-pairs search-weft search-planted wrong-bodies bench
+.PHONY: look build demo test check crash crash-recording fuzz fuzz-pairs search-weft search-planted wrong-bodies bench
 
 # Shows the README's examples in some seconds, with Python alone: by the second implementation, which isn't proved. Nothing is built.
 look:
@@ -48,6 +48,13 @@ $(TREES):
 # Tries all that a loss of power may leave of a store on the built program, of which `make check` tries some.
 crash: | $(PROGRAM)
 	python3 tests/acceptance/crash.py $(PROGRAM)
+
+# Kills what records at 500 drawn moments, under four writers, and records on a full device; an auditor of its own holds all that was acknowledged against the store.
+# `make check` does a few of these kills.
+KILLS ?= 500
+
+crash-recording: | $(PROGRAM)
+	python3 tests/acceptance/kill_recording.py $(PROGRAM) $(KILLS) $(SEED)
 
 # Runs the built program beside the reference on inputs drawn by chance, for so many seconds. The first trial that differs is shrunk and written into
 # tests/acceptance/cases/found; `make check` does 2,000 such trials. The same seed gives the same trials: `make fuzz SECONDS=600 SEED=another`.

@@ -57,7 +57,7 @@ exec "{clang}" "$@"
 """
 
 # The modules of the script, each behind those that it imports.
-SCRIPTS = ["timeweave.mjs", "page/files.mjs", "page/lines.mjs", "page/sentences.mjs", "page/words.mjs", "page/picture.mjs", "page/opened.mjs", "page/session.mjs", "page/view.mjs", "page/page.mjs"]
+SCRIPTS = ["timeweave.mjs", "page/files.mjs", "page/sha256.mjs", "page/letters.mjs", "page/lines.mjs", "page/sentences.mjs", "page/documents.mjs", "page/words.mjs", "page/picture.mjs", "page/opened.mjs", "page/session.mjs", "page/view.mjs", "page/page.mjs"]
 
 
 class Stopped(Exception):
@@ -177,10 +177,19 @@ def base64_of(data):
     return base64.b64encode(data).decode()
 
 
+def declared(text):
+    """The names that a module of the script declares: of functions, classes and constants, of a list of these too, and of those that are taken apart."""
+    names = re.findall(r"^(?:export )?(?:async )?(?:const|let|function|class) (\w+)", text, re.M)
+    for line in re.findall(r"^(?:export )?(?:const|let) .*", text, re.M):
+        names += re.findall(r", ([A-Z_]+) = ", line)
+        names += [name for group in re.findall(r"^(?:export )?(?:const|let) [\[{]([^\]}]*)", line) for name in re.findall(r"\w+", group)]
+    return names
+
+
 def script():
     """The modules of the script in one, without their imports; no two of them declare one name."""
     texts = [(WEB / name).read_text() for name in SCRIPTS]
-    names = [name for text in texts for name in re.findall(r"^(?:export )?(?:async )?(?:const|let|function|class) (\w+)", text, re.M)]
+    names = [name for text in texts for name in declared(text)]
     twice = {name for name in names if names.count(name) > 1}
     if twice:
         raise Stopped(f"names that two modules of the page declare: {', '.join(sorted(twice))}")

@@ -385,7 +385,11 @@ DEBIAN = {
     "SHARE": "usr/share",
     "OWN": "usr/share/timeweave",
     "DOC": "usr/share/doc/timeweave",
+    "SYSTEMD": "usr/lib/systemd/system",
+    "SYSUSERS": "usr/lib/sysusers.d",
+    "ETC": "etc",
 }
+# (units and their settings are in a package alone)
 ELSEWHERE = {
     "BIN": "bin",
     "LIB": "lib",
@@ -396,6 +400,9 @@ ELSEWHERE = {
     "OWN": "share/timeweave",
     "DOC": "share/doc/timeweave",
 }
+
+# The part of tools/installed.txt that the package has alone.
+PACKED_ALONE = "service"
 
 # What is made while it is packed, and so stands nowhere in the sources.
 MADE = (
@@ -413,8 +420,10 @@ def table(files: Files, folders: Dict[str, str], version: str) -> Dict[str, Opti
     for line in files["tools/installed.txt"].decode().splitlines():
         if not line.strip() or line.startswith("#"):
             continue
-        _, mode, source, place = line.split()
+        part, mode, source, place = line.split()
         folder, _, rest = place.partition("/")
+        if (folder not in folders and folder in DEBIAN) or (part == PACKED_ALONE and folders is not DEBIAN):
+            continue
         path = "/".join(filter(None, (folders[folder], rest))).replace("VERSION", version).replace("MAJOR", version.split(".")[0])
         if "*" in source:
             names = [name for name in files if name.count("/") == source.count("/") and fnmatch(name, source)]
@@ -617,7 +626,7 @@ class Release:
 
     def control(self, name: str, told: Files) -> None:
         """Holds what a package says of itself against tools/packages.txt; raises Bad where it says something else."""
-        if not set(told) <= {"control", "md5sums", "shlibs", "triggers"}:
+        if not set(told) <= {"control", "md5sums", "shlibs", "triggers", "conffiles"}:
             raise Bad(f"{name} has scripts: {', '.join(told)}")
         if told.get("triggers", LDCONFIG) != LDCONFIG:
             raise Bad(f"{name} asks for more than ldconfig when it is installed")
@@ -641,7 +650,10 @@ class Release:
             control, data = parts_of_deb(self.read[name])
             self.control(name, control.files)
             seen |= {*self.compare(name, data, wanted), *data.links}
-            sums = {f"{hashlib.md5(text).hexdigest()}  {path}" for path, text in data.files.items()}
+            settings = {path for path in data.files if path.startswith("etc/")}
+            if {*control.files.get("conffiles", b"").decode().splitlines()} != {f"/{path}" for path in settings}:
+                raise Bad(f"{name}: conffiles aren't its settings")
+            sums = {f"{hashlib.md5(text).hexdigest()}  {path}" for path, text in data.files.items() if path not in settings}
             if {*control.files["md5sums"].decode().splitlines()} != sums:
                 raise Bad(f"{name}: md5sums aren't those of its files")
         elsewhere = table(self.sources, ELSEWHERE, version)

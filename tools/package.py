@@ -173,12 +173,16 @@ def put_documents(fields, root, making):
 
 
 def put_control(fields, root, version):
-    """What dpkg reads: the control file, digests, and of a library by which name others need it."""
-    sums = {path.relative_to(root): hashlib.md5(path.read_bytes()).hexdigest() for path in sorted(root.rglob("*")) if path.is_file() and not path.is_symlink()}
+    """What dpkg reads: the control file, which files are a person's own once they are there, digests of the others, and of a library by which name others need it."""
+    paths = [path.relative_to(root) for path in sorted(root.rglob("*")) if path.is_file() and not path.is_symlink()]
+    settings = [path for path in paths if path.parts[0] == "etc"]
     text = control(fields, root, version)
     folder = root / "DEBIAN"
     folder.mkdir()
     (folder / "control").write_text(text)
+    if settings:
+        (folder / "conffiles").write_text("".join(f"/{path}\n" for path in settings))
+    sums = {path: hashlib.md5((root / path).read_bytes()).hexdigest() for path in paths if path not in settings}
     (folder / "md5sums").write_text("".join(f"{found}  {path}\n" for path, found in sums.items()))
     if "library" in fields["Parts"].split():
         (folder / "shlibs").write_text(f"libtimeweave {MAJOR} libtimeweave{MAJOR} (>= {version})\n")

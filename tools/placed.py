@@ -38,7 +38,8 @@ class Layout(NamedTuple):
         share = f"{self.prefix}/share"
         known = {
             "BIN": f"{self.prefix}/bin", "LIB": self.libdir, "INCLUDE": f"{self.prefix}/include", "MAN": f"{share}/man/man1", "PYTHON": self.python,
-            "SHARE": share, "OWN": f"{share}/timeweave", "DOC": f"{share}/doc/timeweave",
+            "SHARE": share, "OWN": f"{share}/timeweave", "DOC": f"{share}/doc/timeweave", "SYSTEMD": f"{self.prefix}/lib/systemd/system",
+            "SYSUSERS": f"{self.prefix}/lib/sysusers.d", "ETC": "etc",
         }  # fmt: skip
         return f"{known[folder]}/{rest}".lstrip("/").replace("VERSION", VERSION).replace("MAJOR", MAJOR)
 
@@ -62,9 +63,13 @@ def table():
                 yield Line(part, number, str(path.relative_to(TOP)), f"{place}/{path.name}")
 
 
+# The part that only a package has: its settings are a person's own, who is asked before they are replaced, and its paths are those of a package.
+OF_PACKAGES = "service"
+
+
 def parts():
-    """The names of the parts, in the order of the table."""
-    return list(dict.fromkeys(line.part for line in table()))
+    """The names of the parts that are copied, in the order of the table."""
+    return [part for part in dict.fromkeys(line.part for line in table()) if part != OF_PACKAGES]
 
 
 def missing(part, files=None):

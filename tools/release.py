@@ -126,7 +126,7 @@ def record(into, folder, program, *more):
     """Records the digests in the log of a folder, and puts their proof and the log's line beside them."""
     archive = next(into.glob("*-source.tar.gz")).name
     weft, name = [sys.executable, TOP / "weft/bin/weft"], archive.replace("source.tar.gz", f"{git('rev-parse', 'HEAD')[:12]}.SHA256SUMS")
-    environment = {**os.environ, "TIMEWEAVE_PROGRAM": str(program), "WEFT_KEPT": str(folder / "kept")}
+    environment = {**os.environ, "TIMEWEAVE_PROGRAM": os.path.abspath(program), "WEFT_KEPT": str(folder / "kept")}
     (folder / "releases").mkdir(parents=True, exist_ok=True)
     shutil.copyfile(into / "SHA256SUMS", folder / "releases" / name)
     is_new = not (folder / "log").exists()

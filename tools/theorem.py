@@ -480,9 +480,14 @@ has the thread of that last step, the history of its name has the same contents,
 texts clash, of those that it and the list hash. `Spells history_layout` is named and not shown: that bytes are a
 history's file. A file is of one history (`history_laws` of tw_history: `format`).
 
-`ShowsReceived` says too little by itself: it ties the receiving service `by` to nothing in PROOF, and of a service that
-no line names it says nothing. That each proof's own service received a thread of the history is said by the clause
-`adopted` of `run`, over the proof as the verifier reads it.
+**Who received it.** Each PROOF shows that a thread of the history that was written was received, and one of them that
+the thread of its last step was (`ShowsReceived`). The first bytes of PROOF name the service `by` that received it, and
+one of its steps. Behind them, where `way` ends, stands the thread: its service, step and authenticator; and the step
+that received it. A line of yours is of `by`, at the step named first or a later one. Take any list of sound histories
+that has each of your lines of `by`. Then its history of `by` received this very thread at the step that is told, which
+isn't above the one named first. Or two texts clash, of those that the list and checking PROOF hash. As above nothing is
+said where no such list is there, nor of what the list's history of the thread's own service has. How long `way` is
+isn't said here: `adopted` of `run` says it of PROOF as the verifier reads it.
 
 Nothing is said of whether the keeper of that name made these steps, or any other: a service may have received a
 thread that its keeper never told. Which service received each thread isn't written by `adopt`; `verify PROOF LINES`
@@ -521,12 +526,25 @@ def lines_of_part(names: Iterable[str], blocks_by: Dict[str, List[List[str]]]) -
     return size([*map(contract, names), *(block for blocks in blocks_by.values() for block in blocks)])[0]
 
 
+# What stands before the list of texts.
+TEXTS = """\
+`hashed_texts`, which the first part names. `family_texts` stands in crates/tw_base/specs/history/Family.antt, and
+`proof_texts` in crates/tw_chain/specs/Accepting.antt."""
+
+
+def texts_of_proof() -> List[str]:
+    """The definitions of the list of texts of a proof, with the words above them."""
+    text = (TOP / "crates/tw_plain/specs/Hashed.antt").read_text()
+    return text[text.index("module _") : text.index("  -- the texts that checking both map files")].rstrip("\n").split("\n")
+
+
 def page() -> str:
     """The page."""
     first, both = meant_by(CLAUSES), meant_by(ALL_CLAUSES)
     shown_first, shown_more = code(first), code(both.beyond(first), MORE_PARTS)
     counts = {"first": lines_of_part(CLAUSES, shown_first), "more": lines_of_part(MORE_CLAUSES, shown_more)}
     lines = [HEAD, *clauses_and_code(CLAUSES, shown_first, "##"), MORE_HEAD.format(**counts), *clauses_and_code(MORE_CLAUSES, shown_more, "###")]
+    lines += ["## The list of texts", "", TEXTS, "", *fenced(texts_of_proof())]
     lines += ["## What the kit names", "", *textwrap.wrap(kit_names(both), 120, break_long_words=False, break_on_hyphens=False), ""]
     return "\n".join(lines).replace("\n\n```\n", "\n```\n")
 

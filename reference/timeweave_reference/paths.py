@@ -61,11 +61,16 @@ def read_path(read: Reader, top: int, step: int) -> Path:
     return tuple(PathLink(read.digest(), read.digests(top_level(start))) for start in greedy_steps(top, step)[:-1])
 
 
-def climbed(path: Path, top: int, step: int, bottom: bytes) -> bytes:
-    """The authenticator of the top that the path computes from that of the step; the step's own where the path has no link."""
-    reached = bottom
+def passed(path: Path, top: int, step: int, bottom: bytes) -> List[Tuple[int, bytes]]:
+    """The steps of the path, from the lower one upwards to the top, each with the authenticator that the path computes of it from that of the lower one."""
+    found = [(step, bottom)]
     for start, link in zip(reversed(greedy_steps(top, step)[:-1]), reversed(path)):
         level = link_level(start, step)
-        label = link_label(start, level, link.datum, reached)
-        reached = authenticator(start, [*link.labels[:level], label, *link.labels[level:]])
-    return reached
+        label = link_label(start, level, link.datum, found[-1][1])
+        found.append((start, authenticator(start, [*link.labels[:level], label, *link.labels[level:]])))
+    return found
+
+
+def climbed(path: Path, top: int, step: int, bottom: bytes) -> bytes:
+    """The authenticator of the top that the path computes from that of the step; the step's own where the path has no link."""
+    return passed(path, top, step, bottom)[-1][1]
