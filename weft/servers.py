@@ -18,7 +18,7 @@ PIECE = 1 << 16
 MOST_REDIRECTS, MOST_ADDRESSES = 3, 4
 REDIRECTS = (301, 302, 303, 307, 308)
 HEADERS = {"User-Agent": f"weft/{__version__}", "Accept-Encoding": "identity", "Cache-Control": "no-cache", "Accept": "*/*"}
-SECONDS_OVER, BYTES_OVER = "its time was up", "more came than is read of a peer in a night"
+SECONDS_OVER, BYTES_OVER = "its time was up", "more came than is read of a server in a night"
 
 
 class Unanswered(Exception):

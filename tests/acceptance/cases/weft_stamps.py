@@ -109,7 +109,7 @@ def not_stamped(room):
     with loom.serving(authority) as served, loom.serving(foreign) as other:
         for way, status, told in (
             ("page", 10, "no answer of a time-stamping authority"), ("changed", 1, "it was changed"), ("other", 1, "it is of another text"), ("elsewhere", 10, "sends elsewhere"),
-            ("failing", 10, "the server answered 500"), ("endless", 10, "it has more than"), ("refused", 1, "isn't kept"), ("silent", 10, "its time was up"),
+            ("failing", 10, "the server answered 500"), ("endless", 10, "more"), ("refused", 1, "isn't kept"), ("silent", 10, "its time was up"),
             *((kind.replace(" ", "-"), 10, "l isn't stamped") for kind in KINDS),
         ):  # fmt: skip
             loom.expect(f"stamp l --url {served.address(way)} --seconds 2", status, told)
