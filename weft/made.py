@@ -9,6 +9,7 @@ from typing import Optional
 
 from weft import files, lines
 from weft.deciding.made import Made, list_names, made_in, may_make, read_made
+from weft.output import complain
 from weft.statuses import Status
 from weft.texts import beside, name_of
 from weft.trouble import Trouble
@@ -59,12 +60,12 @@ def expect_unmade(folder: Path, name: str) -> None:
 
 
 def note(folder: Path, name: str) -> None:
-    """Notes that it was made, each once. (Where the user's own files can't be written, the run that made it goes on: the store is whole.)"""
+    """Notes that it was made, each once. (Where the user's own files can't be written, that is told, and the run that made it goes on: the store is whole.)"""
     path, made = place(), made_of(folder, name)
     if path is None or made in noted_in(path):
         return
     try:
         files.make_folder(path.parent)
         files.add(path, made.text)
-    except Trouble:
-        return
+    except Trouble as trouble:
+        complain(f"{trouble.told()} So it isn't noted that {name} was made in {name_of(folder)}: while its device isn't mounted, another one may be made there.")

@@ -463,7 +463,7 @@ def own_store(room):
 
 def unmounted(room):
     """a log or register that was made under a name in a folder isn't made there once more where its store and all beside it aren't there, as where its device isn't mounted for
-    a night; one whose note was taken out is"""
+    a night; one whose note was taken out is; where it can't be noted, that is told"""
     loom = Loom(room)
     folder_of(loom, "a")
     for words, again in (("log src srv/log data", "log src srv/log data"), ("record srv/reg --name reg --event x", "record srv/reg --name reg --event y")):
@@ -483,7 +483,8 @@ def unmounted(room):
         shutil.rmtree(loom.folder / "srv")
     loom.put("kept.made", "".join(row for row in loom.read("kept.made").decode().splitlines(True) if not row.startswith("data ")))
     (loom.folder / "srv").mkdir()
-    loom.expect("log src srv/log data", 0)
+    loom.expect("log src srv/log data", 0, absent=("noted",))
+    loom.expect("log src srv/other other", 0, "/proc/kept.made can't be written", "it isn't noted that other was made in srv/other", WEFT_KEPT="/proc/kept")
 
 
 def another_folder(room):
