@@ -9,8 +9,9 @@ picture shows what the program printed, and judges nothing: receipts are claims.
 
 import sys
 from collections import Counter
-from html import escape
 from typing import NamedTuple
+
+import svg
 
 ROW, COLUMN, LEFT, TOP, RADIUS = 40, 150, 150, 60, 6
 
@@ -83,29 +84,24 @@ def stops(atlas):
     return found, top
 
 
-def text(x, y, words, place="start", kind="step"):
-    return f'<text x="{x}" y="{y}" text-anchor="{place}" class="{kind}">{escape(str(words))}</text>'
-
-
 def drawn(atlas):
     """The lines of the picture: rows, legs, and stops."""
     found, top = stops(atlas)
     for service, y in top.items():
-        yield text(LEFT - 30, y + 4, service, "end", "service")
+        yield svg.text(LEFT - 30, y + 4, service, "end", class_="service")
     for leg, stop in zip(atlas.legs, found[1:]):
         before = found[leg.after]
-        yield f'<line x1="{before.x}" y1="{before.y}" x2="{stop.x - RADIUS - 3}" y2="{stop.y}" marker-end="url(#arrow)"/>'
+        yield svg.shape("line", x1=before.x, y1=before.y, x2=stop.x - RADIUS - 3, y2=stop.y, marker_end="url(#arrow)")
         if leg.step != before.step:
-            yield text((before.x + stop.x) // 2, (before.y + stop.y) // 2 - 6, f"from {leg.step}", "middle", "from")
+            yield svg.text((before.x + stop.x) // 2, (before.y + stop.y) // 2 - 6, f"from {leg.step}", "middle", class_="from")
     for number, stop in enumerate(found):
         kind = "first" if number in atlas.arrivals.values() else "later"
-        yield f'<circle cx="{stop.x}" cy="{stop.y}" r="{RADIUS}" class="{kind}"/>'
-        yield text(stop.x + RADIUS + 4, stop.y - 6, stop.step)
+        yield svg.shape("circle", cx=stop.x, cy=stop.y, r=RADIUS, class_=kind)
+        yield svg.text(stop.x + RADIUS + 4, stop.y - 6, stop.step, class_="step")
 
 
 STYLE = """text { font: 13px sans-serif } .service { font-weight: bold } .from { font-size: 11px; fill: #666 } line { stroke: #888 }
 circle { stroke: #246; stroke-width: 1.5 } .first { fill: #246 } .later { fill: white }"""
-ARROW = '<marker id="arrow" viewBox="0 0 8 8" refX="7" refY="4" markerWidth="7" markerHeight="7" orient="auto"><path d="M0 0 8 4 0 8z" fill="#888"/></marker>'
 
 
 def picture(atlas):
@@ -113,8 +109,7 @@ def picture(atlas):
     width = LEFT + COLUMN * max(depths(atlas)) + 100
     height = TOP + ROW * sum(rows(atlas).values())
     title = f"Where step {atlas.step} of {atlas.service} leads"
-    head = f'<svg xmlns="http://www.w3.org/2000/svg" width="{width}" height="{height}" viewBox="0 0 {width} {height}">'
-    return "\n".join([head, f"<title>{escape(title)}</title>", f"<style>{STYLE}</style>", f"<defs>{ARROW}</defs>", text(20, 28, title, kind="service"), *drawn(atlas), "</svg>\n"])
+    return svg.picture(width, height, [svg.arrow(7, "#888"), svg.text(20, 28, title, class_="service"), *drawn(atlas)], title, STYLE)
 
 
 if __name__ == "__main__":

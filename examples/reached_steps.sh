@@ -6,11 +6,11 @@
 set -e
 
 script=$(realpath "$(dirname "$0")/../tools/example_files.py")
-picture=$(realpath "$(dirname "$0")/atlas_picture.py")
+pictures=$(realpath "$(dirname "$0")")
 . "$(dirname "$0")/shown.sh"
 
 python3 "$script" reached_steps .
-cp "$picture" .
+cp "$pictures/atlas_picture.py" "$pictures/svg.py" .
 run "timeweave atlas alpha 2 receipts > atlas"
 run "cat atlas"
 run "python3 atlas_picture.py < atlas > atlas.svg"

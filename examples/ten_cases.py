@@ -2,7 +2,8 @@
 """Ten cases as a clerk and an expert meet them: what was sent, the lines got another way, the document, and what `weft judge` and the web page say of it. With a
 report of each for a file of a court.
 
-    examples/ten_cases.py PROGRAM FOLDER     makes the files of all cases in the folder, and in each case's own the report.html by weft judge
+    examples/ten_cases.py PROGRAM FOLDER     makes the files of all cases in the folder, and in each case's own the report.html by weft judge, and evidence.zip, the
+                                             bundle that has what was sent in one file
 
 A registry logs deeds, by name and digest; a notary receives its lines, and logs a case of its own. A seller shows one history to a bank and another one to a port.
 """
@@ -133,16 +134,28 @@ def make_case(world: World, case: Case, folder: Path) -> list[str]:
     return [case.proof, "--kept", "my.lines", *carried, *(["--file", "deed.txt"] if case.document is not None else [])]
 
 
+def make_bundle(world: World, case: Case, folder: Path) -> None:
+    """Puts what was sent in a case into one file, as whoever sent it makes it under his own lines: of the history that was made anew under those of that."""
+    others = ("other", "registry" if case.proof == "rewritten" else "anew")
+    world.put(f"{case.name}.lines", "".join(line for name, line in world.lines.items() if name.split()[0] not in others).encode())
+    record = ["--file", "deed.txt"] if case.document is not None else []
+    run_weft(world, folder, "bundle", "evidence.zip", case.proof, *record, "--kept", world.folder / f"{case.name}.lines").check_returncode()
+
+
+def run_weft(world: World, folder: Path, *words: str | Path) -> subprocess.CompletedProcess[str]:
+    """Runs weft in a folder."""
+    environment = {**os.environ, "TIMEWEAVE_PROGRAM": world.program}
+    return subprocess.run([sys.executable, TOP / "weft/bin/weft", *words], cwd=folder, capture_output=True, text=True, env=environment, check=False)
+
+
 def main(program: str, place: str) -> int:
     """Makes all cases and their reports, and says what is said of each."""
     whole = Path(place).resolve()
     world = make_world(program, whole / "world")
     for case in CASES:
         words = make_case(world, case, whole / case.name)
-        done = subprocess.run(
-            [sys.executable, TOP / "weft/bin/weft", "judge", *words, "--report", "report.html"], cwd=whole / case.name, capture_output=True, text=True,
-            env={**os.environ, "TIMEWEAVE_PROGRAM": world.program},
-        )  # fmt: skip
+        make_bundle(world, case, whole / case.name)
+        done = run_weft(world, whole / case.name, "judge", *words, "--report", "report.html")
         said = next((line for line in done.stdout.splitlines() if line.startswith(f"{case.proof}: ")), done.stderr.strip())
         print(f"{case.name}: {case.what}\n  {said}")
     return 0

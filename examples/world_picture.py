@@ -8,8 +8,9 @@ proof that `verify` accepted are drawn thick. The picture shows what the program
 """
 
 import sys
-from html import escape
 from typing import NamedTuple
+
+import svg
 
 ROW, COLUMN, LEFT, TOP, RADIUS = 70, 34, 130, 70, 6
 
@@ -112,10 +113,6 @@ class World:
         return (arrow.sender, arrow.step, arrow.receiver) in self.hops
 
 
-def text(x, y, words, place="middle", kind="step"):
-    return f'<text x="{x}" y="{y}" text-anchor="{place}" class="{kind}">{escape(str(words))}</text>'
-
-
 def x_of(column):
     return LEFT + COLUMN * column
 
@@ -133,7 +130,7 @@ def drawn_arrows(world, top, at):
         from_y = top.get(arrow.sender, y - ROW // 2)
         kind = "hop" if world.is_shown(arrow) else "thread" if (arrow.sender, arrow.step) in at else "forged"
         back = (RADIUS + 3) if y > from_y else -(RADIUS + 3)
-        yield f'<line x1="{from_x}" y1="{from_y}" x2="{x}" y2="{y - back}" class="{kind}" marker-end="url(#arrow)"/>'
+        yield svg.shape("line", x1=from_x, y1=from_y, x2=x, y2=y - back, class_=kind, marker_end="url(#arrow)")
 
 
 def drawn(world, columns):
@@ -141,21 +138,20 @@ def drawn(world, columns):
     top = rows(world)
     at = {(dot.service, dot.step): x_of(dot.column) for dot in world.dots if dot.step}
     for name, y in top.items():
-        yield text(LEFT - 20, y + 4, name, "end", "service")
-        yield f'<line x1="{LEFT - 10}" y1="{y}" x2="{x_of(columns)}" y2="{y}" class="row"/>'
+        yield svg.text(LEFT - 20, y + 4, name, "end", class_="service")
+        yield svg.shape("line", x1=LEFT - 10, y1=y, x2=x_of(columns), y2=y, class_="row")
     yield from drawn_arrows(world, top, at)
     for dot in world.dots:
         x, y = x_of(dot.column), top[dot.service]
         if dot.kind == "crash":
-            yield f'<path d="M{x - 5} {y - 16}l10 10m0 -10l-10 10" class="crash"/>'
+            yield svg.shape("path", d=f"M{x - 5} {y - 16}l10 10m0 -10l-10 10", class_="crash")
         else:
-            yield f'<circle cx="{x}" cy="{y}" r="{RADIUS}"/>'
-            yield text(x, y + 22, dot.step)
+            yield svg.shape("circle", cx=x, cy=y, r=RADIUS)
+            yield svg.text(x, y + 22, dot.step, "middle", class_="step")
 
 
 STYLE = """text { font: 12px sans-serif } .service { font-weight: bold } .row { stroke: #ddd } circle { fill: #246 } .thread, .forged { stroke: #888 }
 .forged { stroke-dasharray: 4 3 } .hop { stroke: #a30; stroke-width: 2.5 } .crash { stroke: #a30; stroke-width: 2; fill: none }"""
-ARROW = '<marker id="arrow" viewBox="0 0 8 8" refX="7" refY="4" markerWidth="6" markerHeight="6" orient="auto"><path d="M0 0 8 4 0 8z" fill="#666"/></marker>'
 
 
 def picture(script, output):
@@ -164,9 +160,8 @@ def picture(script, output):
     world = World(told)
     width, height = x_of(len(told)) + 40, TOP + ROW * len(world.services)
     title = f"{len(told)} lines, {sum(world.steps.values())} steps, {len(world.arrows)} archived threads"
-    head = f'<svg xmlns="http://www.w3.org/2000/svg" width="{width}" height="{height}" viewBox="0 0 {width} {height}">'
-    parts = [head, f"<title>{escape(title)}</title>", f"<style>{STYLE}</style>", f"<defs>{ARROW}</defs>", text(20, 28, title, "start", "service")]
-    return "\n".join([*parts, *drawn(world, len(told)), "</svg>\n"])
+    parts = [svg.arrow(6, "#666"), svg.text(20, 28, title, class_="service"), *drawn(world, len(told))]
+    return svg.picture(width, height, parts, title, STYLE)
 
 
 if __name__ == "__main__":

@@ -16,7 +16,9 @@ from weft import box as boxes
 from weft import files, judges, lines, locks, own, parts, signatures
 from weft.box import Settings
 from weft.deciding import backups as deciding
-from weft.deciding.backups import BESIDE, BOX, KEPT, KEY, LIST, MARK, PUBLIC, SERVICE, SIGNERS, Item, Manifest, Noted, Recorded, is_backed_up, is_of_service, may_be_named
+from weft.deciding.backups import (
+    BESIDE, BOX, KEPT, KEY, LIST, MADE, MARK, OTHERS, OWN, PUBLIC, SERVICE, SIGNERS, STAMPS, Item, Manifest, Noted, Recorded, is_backed_up, is_of_service, may_be_named,
+)  # fmt: skip
 from weft.deciding.restoring import Told, find_lacking
 from weft.deciding.standing import Command
 from weft.judges import Bench
@@ -26,10 +28,11 @@ from weft.progress import with_progress
 from weft.standing import Standing
 from weft.statuses import Status
 from weft.stores import Store
-from weft.texts import beside, listed, name_of, now
+from weft.texts import beside, count_of, listed, name_of, now
 from weft.trouble import Trouble
 
 MOST_LIST = 256 << 20
+MOST_TOLD = 8
 PIECE = 1 << 20
 UNMADE = "No backup was made"
 
@@ -42,9 +45,20 @@ def faults_of_tar() -> tuple[type[BaseException], ...]:
     return tarfile.TarError, ValueError, OverflowError, EOFError
 
 
+class Entry(tarfile.TarInfo):
+    """A file of a tar file. One that says of itself, by whichever of its heads, that it has fewer than no bytes leads the reader back to where it was, again and again, in
+    Pythons before 3.13.6: here it is no file."""
+
+    def _block(self, count: int) -> int:
+        """The bytes that so many take in a tar file."""
+        if count < 0:
+            raise tarfile.ReadError("a size below 0")
+        return super()._block(count)  # type: ignore[misc,no-any-return]
+
+
 def opened_tar(file: IO[bytes]) -> tarfile.TarFile:
     """The tar file of an open file, to be read from its first byte on."""
-    return tarfile.open(fileobj=file, mode="r:", encoding="utf-8", errors="surrogateescape")
+    return tarfile.open(fileobj=file, mode="r:", encoding="utf-8", errors="surrogateescape", tarinfo=Entry)
 
 
 def begins_as_backup(tar: tarfile.TarFile) -> bool:
@@ -100,12 +114,16 @@ class Made(NamedTuple):
     key: Optional[Path]
     doubt: Optional[str]
     lost: tuple[str, ...]
+    lost_own: tuple[str, ...]
 
     @property
     def lost_told(self) -> list[str]:
-        """What is told of peers that the backup before had."""
+        """What is told of peers, and of the user's own files, that the backup before had."""
         what = "what the backup in whose place it came had of {} isn't in it: was its box left out, or is it another one's? Let each box have a backup of its own."
-        return [what.format(listed(list(self.lost)))] if self.lost else []
+        own = "the backup in whose place it came had {} among your own files, and they aren't there now: were they lost? An earlier backup may have them."
+        names = [name_of(it.removeprefix(f"{OWN}/")) for it in self.lost_own[:MOST_TOLD]]
+        more = [count_of(len(self.lost_own) - MOST_TOLD, "more file")] if len(self.lost_own) > MOST_TOLD else []
+        return [*([what.format(listed(list(self.lost)))] if self.lost else []), *([own.format(listed([*names, *more]))] if names else [])]
 
 
 class Through:
@@ -255,18 +273,20 @@ def back_up(wanted: Wanted) -> Made:
         if wanted.box is not None:
             boxes.expect_own(wanted.box, found[0].last.service)
         before = expect_replaceable(wanted.to, found, judge)
+        had = (before.peers, before.items) if before is not None else ((), ())
         peers = recorded_of(wanted.box, found, settings) if wanted.box is not None else []
         sources = sources_of(wanted, settings)
         made = write(wanted, sources, Manifest(now(), tuple(part.last for part in found), tuple(peers), ()))
         OwnLines(found[-1].folder).note_backup(Noted(made.last, made.made, made.digest, os.path.realpath(wanted.to)))
         key = settings.key if settings.key is not None and not wanted.has_keys else None
-        return Made(made, os.stat(wanted.to).st_size, tuple(sources.left_out), key, going.doubt, tuple(deciding.list_lost(before, names_in(wanted.box, found, settings))))
+        lost, lost_own = deciding.list_lost(had[0], names_in(wanted.box, found, settings)), deciding.list_lost_own(had[1], made.items)
+        return Made(made, os.stat(wanted.to).st_size, tuple(sources.left_out), key, going.doubt, tuple(lost), tuple(lost_own))
 
 
-def expect_replaceable(to: Path, found: Sequence[Part], judge: Bench) -> Sequence[Recorded]:
-    """The peers of the backup in whose place this one comes. Raises Trouble where that has later steps, or of another history, or of what is no backup."""
+def expect_replaceable(to: Path, found: Sequence[Part], judge: Bench) -> Optional[Manifest]:
+    """The list of the backup in whose place this one comes. Raises Trouble where that has later steps, or of another history, or of what is no backup."""
     if not files.is_there(to):
-        return ()
+        return None
     old = read_list(to)
     if old is None:
         raise Trouble(Status.REFUSED, f"{name_of(to)} is there, and is no whole backup; it isn't written over", "Name another file, or move that one away.")
@@ -276,7 +296,7 @@ def expect_replaceable(to: Path, found: Sequence[Part], judge: Bench) -> Sequenc
     if lacking is not None:
         told = f"{name_of(to)} has step {lacking.line.step} of {lacking.line.service}, which the store in {name_of(found[0].folder)} lacks: is that an old one? {UNMADE}"
         raise Trouble(Status.OLD_STORE, told, f"Put that backup back: weft restore {name_of(to)} .. If the store is the right one, name another file here.")
-    return old.peers
+    return old
 
 
 def find_lacking_line(found: Sequence[Part], told: Sequence[Told], judge: Bench) -> Optional[Told]:
@@ -312,6 +332,8 @@ def sources_of(wanted: Wanted, settings: Settings) -> Found:
     if wanted.box is not None:
         found.add(BOX, wanted.box)
     for name, path in own_files():
+        if os.path.isdir(path):
+            found.add(name, Path(os.path.realpath(path)))
         found.add_file(name, path)
     if key is not None:
         apart = os.path.realpath(key)
@@ -324,9 +346,11 @@ def sources_of(wanted: Wanted, settings: Settings) -> Found:
 
 
 def own_files() -> list[tuple[str, Path]]:
-    """The user's own files that go into a backup; none where the system knows of no folder of this user's own."""
+    """The user's own files that go into a backup, and the folder of stamps; none where the system knows of no folder of this user's own."""
     try:
-        return [(KEPT, lines.default_kept()), (SIGNERS, signatures.default_signers())]
+        kept = lines.default_kept()
+        beside_it = [(OTHERS, beside(kept, ".others")), (MADE, beside(kept, ".made")), (STAMPS, beside(kept, ".stamps"))]
+        return [(KEPT, kept), (SIGNERS, signatures.default_signers()), *beside_it]
     except Trouble as trouble:
         if trouble.status is not Status.DISK:
             raise

@@ -1,6 +1,6 @@
 """A box: for each peer a folder of its name, in which whatever carries files finds and leaves them.
 
-    BOX/box.conf            settings, `name = value`: key, unsigned, files, bytes, silent; url PEER, seconds; publish, open, backup
+    BOX/box.conf            settings, `name = value`: key, unsigned, files, bytes, silent; url PEER, seconds; publish, open, backup, stamp
     BOX/.own                the name of the service whose box it is, which its first turn notes
     BOX/.of                 where the folder of the service is, as its last turn found it: nothing that is published lies there
     BOX/.published          all lines that were published, each signed, in their order
@@ -44,7 +44,7 @@ LONG = ("signed", "given", "got", "heard")
 class Settings(NamedTuple):
     """What box.conf says: the key that own lines are signed with; whether unsigned messages are taken; how many files and bytes are read, and fetched, a night and
     peer, and for how many seconds; after how many turns in which nothing new came a peer's silence is told, 0 for never; by which address each peer publishes
-    for this service; where this one publishes, and for which peers openly, `*` for all; and the backup that is made before that."""
+    for this service; where this one publishes, and for which peers openly, `*` for all; the backup that is made before that; and the authority that stamps its line."""
 
     key: Optional[Path] = None
     is_unsigned: bool = False
@@ -56,9 +56,10 @@ class Settings(NamedTuple):
     publish: Optional[Path] = None
     is_open: tuple[str, ...] = ()
     backup: Optional[Path] = None
+    stamp: Optional[Address] = None
 
 
-SETTINGS = "They are: key = FILE, unsigned = yes, files = 64, bytes = 4194304, seconds = 120, silent = 3, url PEER = https://HOST/PATH/, publish = FOLDER, open = PEER .., backup = FILE."
+SETTINGS = "They are: key = FILE, unsigned = yes, files = 64, bytes = 4194304, seconds = 120, silent = 3, url PEER = https://HOST/PATH/, publish = FOLDER, open = PEER .., backup = FILE, stamp = URL."
 PATHS = ("key", "publish", "backup")
 NUMBERS = {"files": "[1-9][0-9]{0,9}", "bytes": "[1-9][0-9]{0,9}", "seconds": "[1-9][0-9]{0,3}", "silent": "0|[1-9][0-9]{0,3}"}
 
@@ -66,11 +67,14 @@ NUMBERS = {"files": "[1-9][0-9]{0,9}", "bytes": "[1-9][0-9]{0,9}", "seconds": "[
 def read_settings(box: Path) -> Settings:
     """The settings of a box; raises Trouble where a line of them isn't known."""
     data = files.read_if_there(box / "box.conf", MOST_SETTINGS)
-    found = Settings()
+    found, seen = Settings(), dict[str, int]()
     for number, line in enumerate((data or b"").decode("utf-8", "replace").splitlines(), 1):
         if not line.strip() or line.lstrip().startswith("#"):
             continue
         name, _, value = (word.strip() for word in line.partition("="))
+        if seen.setdefault(" ".join(name.split()), number) != number:
+            told = f"lines {seen[' '.join(name.split())]} and {number} of {name_of(box / 'box.conf')} both set {quoted(name)}"
+            raise Trouble(Status.UNREADABLE, told, "Keep the one that is meant, and take the other out.")
         read = with_setting(found, box, name, value) if value else None
         if read is None:
             raise Trouble(Status.UNREADABLE, f"line {number} of {name_of(box / 'box.conf')} is no setting", SETTINGS)
@@ -89,6 +93,9 @@ def with_setting(found: Settings, box: Path, name: str, value: str) -> Optional[
         number = int(value)
         with_number = {"files": found._replace(files=number), "bytes": found._replace(bytes=number), "seconds": found._replace(seconds=number)}
         return with_number.get(name, found._replace(silent=number))
+    if name == "stamp":
+        address = read_address(value, is_open=True)
+        return found._replace(stamp=address) if isinstance(address, Address) else None
     if name == "open":
         names = tuple(value.replace(",", " ").split())
         return found._replace(is_open=names) if names == ("*",) or all(NAME.fullmatch(it) for it in names) else None

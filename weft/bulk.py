@@ -13,13 +13,13 @@ from collections import Counter
 from concurrent.futures import Executor, ProcessPoolExecutor, as_completed
 from concurrent.futures.process import BrokenProcessPool
 from pathlib import Path
-from typing import Collection, Iterator, NamedTuple, Optional
+from typing import Collection, Iterator, Mapping, NamedTuple, Optional, Sequence
 
-from weft import choosing, clusters, dated, files, formats, judges, lines, locks, outcomes, packages
+from weft import choosing, clusters, dated, files, formats, judges, lines, locks, many_bundles, outcomes, packages, signatures
 from weft.choosing import Judgement
 from weft.deciding import rows
 from weft.deciding.choosing import Extent, Headline, list_received
-from weft.deciding.contradicting import find_pairs, find_two_lines, may_count, read_told
+from weft.deciding.contradicting import find_pairs, find_two_lines, may_count, read_by, read_told, write_by
 from weft.deciding.rows import HEAD, NO_DIGEST, Row
 from weft.deciding.worst import worst_of
 from weft.judges import Bench
@@ -30,7 +30,8 @@ from weft.progress import Progress
 from weft.sentences import fill
 from weft.stamps import Days
 from weft.statuses import Status
-from weft.texts import MOST_SHOWN, beside, count_of, name_of, now, printable
+from weft.table_rows import reason_of, row_of_trouble, shown_path, shown_reason
+from weft.texts import beside, count_of, name_of, now
 from weft.trouble import Trouble, of_machine
 
 PIECE, PIECES = 500, 64
@@ -41,6 +42,8 @@ PASSING = (Status.DIFFER, Status.NO_MEMORY, Status.DISK)
 APART = "CONTRADICTS "
 # In front of a kept line that doesn't count, for a worker.
 UNCOUNTED = "doesn't count: "
+# Why a worker judges no bundle.
+BUNDLE = "a bundle, which is judged where its reader's keys are"
 # Behind the lines that the row of a history tells: it has those of its other steps too.
 WHOLE = "; and its history"
 
@@ -105,6 +108,8 @@ def row_of(task: Task, name: str, kept: KeptLines, judge: Bench) -> Made:
     digest, known = rows.digest_of(data), task.known.get(shown_path(name))
     if known is not None and rows.may_take_row(known, digest, PASSING):
         return Made(known, True)
+    if formats.kind_of(data) == "bundle":
+        return Made(row_of_trouble(name, len(data), digest, Trouble(Status.UNREADABLE, BUNDLE)), False)
     try:
         named = Named(name, data, formats.kind_of(data))
         with of_machine(name):
@@ -113,56 +118,15 @@ def row_of(task: Task, name: str, kept: KeptLines, judge: Bench) -> Made:
     except Trouble as trouble:
         return Made(row_of_trouble(name, len(data), digest, trouble), False)
     resting = "; ".join(f"{line.service} {line.step}" for line in judgement.lines)
-    reason = shown_reason(reason_of(judgement, outcome))
+    uncompared = [fill("no document")] if outcomes.documents_of(judge, outcome, judgement, [named]) else []
+    reason = shown_reason(" | ".join([reason_of(judgement, outcome), *uncompared]))
     row = Row(shown_path(name), len(data), digest, outcome.headline.value, int(outcome.status), reason, resting)
     if judgement.is_shown or (judgement.history is not None and judgement.history.extent is Extent.PART):
         archive = formats.told_by(data, judgement.lines)
         told = "" if outcome.is_refuted else "; ".join(line.text for line in outcomes.all_lines(judge, kept, [named], judgement, is_whole=False))
         told += WHOLE if judgement.history is not None else ""
-        row = row._replace(told=told, archive=archive.text if archive is not None else "")
+        row = row._replace(told=told, archive=archive.text if archive is not None else write_by(formats.tellers_in(data)))
     return Made(row, False)
-
-
-def row_of_trouble(name: str, size: int, digest: str, trouble: Trouble) -> Row:
-    """The row of a file that wasn't judged."""
-    return Row(shown_path(name), size, digest, Headline.NOT_JUDGED.value, int(trouble.status), shown_reason(trouble.sentence), "")
-
-
-def reason_of(judgement: Judgement, outcome: outcomes.Outcome) -> str:
-    """Why, in short: the kept lines that it contradicts, the lines that are missing, the judge's own words of what is shown, else the
-    first sentence."""
-    if outcome.told and outcome.told[0].startswith(outcomes.UNCOUNTED_DIFFERS):
-        return outcome.told[0]
-    if outcome.contradicted:
-        return "TWO LINES: " + "; ".join(f"{line.service} {line.step}" for line in outcome.contradicted)
-    if judgement.missing:
-        return "missing: " + "; ".join(f"{needed.service} {needed.step}" for needed in judgement.missing)
-    if judgement.verdict is None or outcome.is_refuted:
-        return outcome.told[0]
-    if judgement.is_shown:
-        return " | ".join([*judgement.verdict.text.splitlines()[1:3], *cut_off(judgement)])
-    return f"{' '.join(judgement.verdict.reason or judgement.verdict.text.split())}: {outcome.told[0]}"
-
-
-def cut_off(judgement: Judgement) -> list[str]:
-    """That a line of a step behind a history's last one was kept, where one was: the file is an older one, or was cut."""
-    history = judgement.history
-    if history is None or history.held.beyond is None:
-        return []
-    return [f"ends at step {history.last}, and you hold a line of step {history.held.beyond}"]
-
-
-def shown_path(name: str) -> str:
-    """The path of a file as the table has it, of each file another one: a backslash is escaped, as what isn't printable is, and as quotes are. One that begins as
-    a formula does begins with ./ there; behind one that is cut, since it is long, stands a digest of the whole."""
-    text = name.replace("\\", "\\\\")
-    end = rows.digest_of(os.fsencode(name))[:16] if len(text) > MOST_SHOWN else ""
-    return rows.read_as_table(printable(text) + end, "./")
-
-
-def shown_reason(text: str) -> str:
-    """Why, as the table has it."""
-    return rows.read_as_table(printable(text), "of ")
 
 
 def found_files(folder: Path) -> list[str]:
@@ -197,7 +161,7 @@ def list_folder(top: Path, place: str) -> Below:
 
 def told_by(judge: Bench, allow_carried: bool) -> str:
     """By whom rows are judged."""
-    return judge.told("verify" if allow_carried else "strict")
+    return judge.name_judges("verify" if allow_carried else "strict")
 
 
 def state_of(table: Path) -> Path:
@@ -252,15 +216,19 @@ def judged_rows(tasks: list[Task], workers: int, executor: Optional[Executor] = 
 def run(options: argparse.Namespace, kept: KeptLines, judge: Bench) -> Status:
     """Judges all files of a folder into a table, over the processes of this machine, or over a cluster."""
     if options.dask is None:
-        return judged(options, kept, judge, None)
+        return judge_many(options, kept, judge, None)
     with clusters.executor(options.dask, options.tls) as executor:
-        return judged(options, kept, judge, executor)
+        return judge_many(options, kept, judge, executor)
 
 
-def judged(options: argparse.Namespace, kept: KeptLines, judge: Bench, executor: Optional[Executor]) -> Status:
+def judge_many(options: argparse.Namespace, kept: KeptLines, judge: Bench, executor: Optional[Executor]) -> Status:
     """Judges them, over an executor where one is given."""
     folder = Path(options.many).absolute()
     table = Path(options.table) if options.table else beside(Path(options.many), ".verdicts.tsv")
+    top, above = (Path(os.path.realpath(it)) for it in (folder, table.absolute().parent))
+    if top in (above, *above.parents):
+        told = f"the table {name_of(table)} would lie in the folder that is judged, and be judged as a proof at the next run"
+        raise Trouble(Status.USAGE, told, "Name a file elsewhere by --table.")
     workers = len(os.sched_getaffinity(0)) if options.workers is None else options.workers
     if workers < 1:
         raise Trouble(Status.USAGE, "--workers is 1 at least", "Leave it out for one a processor.")
@@ -271,10 +239,18 @@ def judged(options: argparse.Namespace, kept: KeptLines, judge: Bench, executor:
     files.make_folder(state_of(table).parent)
     with locks.held(beside(state_of(table), ".lock"), 0, table):
         made = judge_folder(options, judge, executor, Folder(folder, names, text, title, state_of(table), workers))
-        beside_others = held_together([made[name] for name in names], names, folder, kept, judge)
-        made_rows = [with_day(it.row, kept, options.days) for it in beside_others]
+        opened = judge_bundles(options, judge, kept, folder, [name for name in names if made[name].row.reason == BUNDLE])
+        made.update({name: Made(it.row, False) for name, it in opened.items()})
+        beside_others = held_together([made[name] for name in names], names, folder, kept, judge, opened)
+        made_rows = [with_day(it.row, kept, options.days) if name not in opened else it.row for name, it in zip(names, beside_others)]
         files.hand_out(table, table_of(f"{title}; table made on {now()[:10]}. {fill('theorem')}", made_rows))
     return tell(options, table, beside_others, judge, kept)
+
+
+def judge_bundles(options: argparse.Namespace, judge: Bench, kept: KeptLines, folder: Path, names: list[str]) -> dict[str, many_bundles.Judged]:
+    """The rows of bundles, by their files."""
+    reader = many_bundles.Reader(kept, options.authorities, options.signers or signatures.default_signers(), options.carried)
+    return {name: many_bundles.judge_bundle(judge, folder, name, reader) for name in names}
 
 
 def with_day(row: Row, kept: KeptLines, days: Days) -> Row:
@@ -290,12 +266,15 @@ def resting_of(row: Row, kept: KeptLines) -> list[Line]:
     return [line for service, step in places if (line := kept.one(service, int(step))) is not None]
 
 
-def held_together(made: list[Made], names: list[str], folder: Path, kept: KeptLines, judge: Bench) -> list[Made]:
-    """The rows, in which files that are shown and contradict each other are marked."""
+def held_together(made: list[Made], names: list[str], folder: Path, kept: KeptLines, judge: Bench, opened: Mapping[str, many_bundles.Judged]) -> list[Made]:
+    """The rows, in which files that are shown and contradict each other are marked; of a bundle what it has counts."""
     judge = judges.for_contradictions(judge)
     archives = [(place, found) for place, it in enumerate(made) if (found := read_told(it.row.archive)) is not None]
     told = [(place, found) for place, found in archives if made[place].row.told]
     marked, broken = list(made), {found.service for place, found in archives if not made[place].row.told}
+
+    def parts_of(name: str, row: Row) -> Sequence[bytes]:
+        return opened[name].parts if name in opened else file_and_anchors(folder / name, row, kept)
 
     def mark(first: int, second: int) -> None:
         for place, other in ((first, second), (second, first)):
@@ -303,7 +282,7 @@ def held_together(made: list[Made], names: list[str], folder: Path, kept: KeptLi
 
     for pair in find_pairs([found for _, found in told]):
         places = [told[it][0] for it in pair]
-        parts = [part for place in places for part in file_and_anchors(folder / names[place], made[place].row, kept)]
+        parts = [part for place in places for part in parts_of(names[place], made[place].row)]
         if len(parts) == 4 and choosing.judge_contradiction(judge, (parts[0], parts[1], parts[2], parts[3])).is_accepted:
             broken.add(told[pair.first][1].service)
             mark(*places)
@@ -316,7 +295,8 @@ def all_told(made: list[Made], names: list[str], folder: Path, broken: Collectio
     """The lines that files tell, each with the place of its file; of a history behind all others those that it received, and those of the steps that others tell."""
     steps: dict[str, set[int]] = {}
     histories = [place for place, it in enumerate(made) if it.row.told.endswith(WHOLE)]
-    told = [(place, line) for place, it in enumerate(made) for line in lines_of_row(it.row, broken)]
+    doubted = {place: doubted_in(folder / names[place], it.row, broken) for place, it in enumerate(made) if not read_by(it.row.archive).isdisjoint(broken)}
+    told = [(place, line) for place, it in enumerate(made) for line in lines_of_row(it.row, broken) if line not in doubted.get(place, ())]
     received = ((place, line) for place in histories for line in received_in(made[place].row, bytes_of(folder / names[place], made[place].row), broken))
     for place, line in itertools.chain(told, received):
         steps.setdefault(line.service, set()).add(line.step)
@@ -327,6 +307,12 @@ def all_told(made: list[Made], names: list[str], folder: Path, broken: Collectio
         history = formats.timeline_of(bytes_of(folder / names[place], made[place].row)) if wanted else None
         if history is not None:
             yield from ((place, Line(service, step, history.authenticators[step])) for step in sorted(wanted) if step <= int(bound))
+
+
+def doubted_in(path: Path, row: Row, broken: Collection[str]) -> set[Line]:
+    """The lines that a chain or evidence tells by the word of a service that broke a rule alone; all of a file that isn't the same any more."""
+    data = bytes_of(path, row)
+    return {*formats.doubted_in(data, broken)} if data else {*lines_of_row(row, broken)}
 
 
 def received_in(row: Row, data: bytes, broken: Collection[str]) -> list[Line]:
@@ -408,14 +394,17 @@ def tell(options: argparse.Namespace, table: Path, made: list[Made], judge: Benc
     lacking = sum(it.row.status == Status.MISSING for it in made)
     apart = sum(it.row.reason.startswith(APART) for it in made)
     two = sum(it.row.status == Status.CONTRADICTION for it in made) - apart
-    taken = sum(it.is_taken for it in made)
+    taken, uncompared = sum(it.is_taken for it in made), sum(it.row.reason.endswith(f" | {fill('no document')}") for it in made)
     if options.json:
         found = {verdict.replace(" ", "_"): count for verdict, count in counts.items()}
-        told = {"lacking_a_line": lacking, "two_lines": two, "contradicting_each_other": apart, "status": int(status), "judged_by": told_by(judge, options.carried)}
+        told: dict[str, object] = {"lacking_a_line": lacking, "two_lines": two, "contradicting_each_other": apart, "no_document_compared": uncompared}
+        told |= {"status": int(status), "judged_by": told_by(judge, options.carried)}
         say_json({"table": str(table), "files": len(made), "taken": taken, **found, **told, "not_counting": len(choosing.uncounted(kept, kept.uncounted))})
         return status
     parts = [f"{count:,} {verdict}" for verdict, count in counts.most_common()]
     say(f"{count_of(len(made), 'file')}: {', '.join(parts) or 'nothing'}; the table is {name_of(table)}.")
+    if uncompared:
+        say(f"{count_of(uncompared, 'file')}: {fill('no document')}. weft judge PROOF --file FILE compares one.")
     if lacking:
         say(f"{count_of(lacking, 'file')} {'lacks' if lacking == 1 else 'lack'} a line that you don't hold: the table says which. {fill('only now')}")
     if two:

@@ -11,7 +11,9 @@ from typing import NamedTuple, Optional
 
 from weft import lines, outcomes, signatures, stamps
 from weft.choosing import Judgement
-from weft.deciding.bundles import LINES, MOST_NUMBER, PROOF, RECORD, Met, Unfit, is_on_a_word, may_judge_under, meet_line, numbered, read_bundle, record_name
+from weft.deciding.bundles import (
+    HELD, HIGH, LINES, MOST_NUMBER, PROOF, Met, Record, Unfit, are_judged_together, is_on_a_word, list_records, may_judge_under, meet_line, numbered, read_bundle,
+)  # fmt: skip
 from weft.deciding.choosing import Headline
 from weft.deciding.commands import in_its_folder
 from weft.deciding.rows import digest_of
@@ -29,24 +31,28 @@ from weft.trouble import Trouble
 
 
 class Opened(NamedTuple):
-    """A bundle that was opened: its proof, the lines under which that is judged, what meets each line that came in it, and its record, with its name."""
+    """A bundle that was opened: its proof, of map files both, the lines under which that is judged, what meets each line that came in it, and its records."""
 
-    proof: Named
+    proofs: list[Named]
     kept: KeptLines
     met: dict[Line, Met]
     keys: dict[Line, str]
-    record: Optional[tuple[str, bytes]]
+    records: list[Record]
 
 
 def open_bundle(it: Named, kept: KeptLines, days: stamps.Days, signers: Path) -> Opened:
     """Opens a bundle beside the reader's lines, keys and authorities. Raises Trouble where it is none."""
     found = read_bundle(it.data)
     if isinstance(found, Unfit):
-        advice = f"Ask for it again, as weft bundle wrote it. {fill('is it the document')} Then: weft judge PROOF --file {typed(it.path)}"
-        raise Trouble(Status.UNREADABLE, f"{name_of(it.path)} is no bundle of weft: {found.value}", advice)
-    sent = list(dict.fromkeys(lines.lines_of(found[LINES], f"{name_of(it.path)}: lines")))
+        advice = f"{fill('ask for bundle')} {fill('is it the document')} Then: weft judge PROOF --file {typed(it.path)}"
+        raise Trouble(Status.UNREADABLE, fill("no bundle", file=name_of(it.path), why=fill(found.value)), advice)
+    proofs = [Named(it.path, found[name], kind_of(found[name])) for name in (PROOF, HIGH) if name in found]
+    if not are_judged_together([proof.kind for proof in proofs]):
+        raise Trouble(Status.UNREADABLE, fill("bundle apart", file=name_of(it.path)), "Ask for a bundle of each.")
+    sent = list(dict.fromkeys(line for name in (LINES, HELD) if name in found for line in lines.lines_of(found[name], f"{name_of(it.path)}: {name}")))
     if len(sent) > MOST_NUMBER:
-        raise Trouble(Status.UNREADABLE, f"{name_of(it.path)} has {len(sent)} lines, and {MOST_NUMBER} are read", "Ask for one of a single proof.")
+        told = fill("bundle many lines", file=name_of(it.path), count=len(sent), most=MOST_NUMBER)
+        raise Trouble(Status.UNREADABLE, told, "Ask for one of a single proof.")
     keys = signed_lines(found, sent, signers)
     for line, pair in itertools.product(sent, numbered(found, "stamped")):
         if pair.text == f"{line.text}\n".encode():
@@ -56,8 +62,7 @@ def open_bundle(it: Named, kept: KeptLines, days: stamps.Days, signers: Path) ->
         held = [one.line for one in kept.at(line.service, line.step)]
         met[line] = meet_line(line, held, line in keys, bool(days.dated([line])))
     counted = with_counted(kept, [Kept(line, "", how_of(line, met[line], keys, it.path)) for line in sent if may_judge_under(met[line])])
-    proof, name = found[PROOF], record_name(found)
-    return Opened(Named(it.path, proof, kind_of(proof)), counted, met, keys, None if name is None else (name, found[RECORD]))
+    return Opened(proofs, counted, met, keys, list_records(found))
 
 
 def signed_lines(found: dict[str, bytes], sent: list[Line], signers: Path) -> dict[Line, str]:
@@ -87,15 +92,20 @@ def with_counted(kept: KeptLines, more: list[Kept]) -> KeptLines:
     return made
 
 
-def with_record(judge: Bench, outcome: Outcome, opened: Opened, judgement: Judgement) -> Outcome:
-    """The outcome of an accepted proof, held against the record of its bundle."""
-    if opened.record is None or not outcomes.is_held_against(judgement, outcome):
-        return outcome
-    name, data = opened.record
+def with_records(judge: Bench, outcome: Outcome, opened: Opened, judgement: Judgement) -> Outcome:
+    """The outcome of an accepted proof, held against each record of its bundle."""
+    for record in opened.records:
+        if outcomes.is_held_against(judgement, outcome):
+            outcome = with_record(judge, outcome, opened, judgement, record)
+    return outcome
+
+
+def with_record(judge: Bench, outcome: Outcome, opened: Opened, judgement: Judgement, record: Record) -> Outcome:
+    """The same, held against one."""
     with tempfile.TemporaryDirectory(prefix="weft-") as folder:
-        path = Path(folder) / name
-        path.write_bytes(data)
-        found = outcomes.unless_troubled(outcome, lambda it: outcomes.with_file(judge, it, judgement, [opened.proof], str(path)))
+        path = Path(folder) / record.name
+        path.write_bytes(record.data)
+        found = outcomes.unless_troubled(outcome, lambda it: outcomes.with_file(judge, it, judgement, opened.proofs, str(path)))
         told = [text.replace(f"{folder}/", "") for text in found.told]
         return found._replace(told=told, inputs=tuple(it._replace(file=it.file.replace(f"{folder}/", "")) for it in found.inputs))
 
@@ -121,6 +131,11 @@ def expect_alone(options: argparse.Namespace) -> None:
     """Raises Trouble where words don't go with a bundle."""
     if options.audit or options.top is not None:
         raise Trouble(Status.USAGE, "--audit and --top aren't for a bundle", "Take its proof out by any program that opens zip files.")
+
+
+def taken_out(opened: Opened) -> list[Named]:
+    """The proof of a bundle, of map files both, by the names that they have in it."""
+    return [it._replace(path=name) for it, name in zip(opened.proofs, (PROOF, HIGH))]
 
 
 def facts_of(known: Facts, it: Named, opened: Opened) -> Facts:

@@ -77,11 +77,11 @@ class StoreEdges:
 
     def first_from(self, service: str, step: int, refuted: set[int]) -> Optional[Hop]:
         """The first hop of this step of a service or a later one, but for steps that were refuted; steps of one service are received rising."""
-        while (found := self.asked(service, step)) is not None and found.step in refuted:
+        while (found := self.ask_store(service, step)) is not None and found.step in refuted:
             step = found.step + 1
         return found
 
-    def asked(self, service: str, step: int) -> Optional[Hop]:
+    def ask_store(self, service: str, step: int) -> Optional[Hop]:
         """What the store tells."""
         if (service, step) not in self.known:
             answer = self.store.ask("map", "high", str(step), service)

@@ -207,7 +207,7 @@ def audit(judge: Bench, data: bytes, line: Line, is_same: bool) -> Verdict:
     if verdict.is_accepted == is_same and verdict.text.startswith("stands" if is_same else "unheld "):
         return verdict
     told = f"the reference computes that the line of step {line.step} of {line.service} is {'' if is_same else 'not '}of this history"
-    raise Trouble(Status.DIFFER, f"two judges differ: {told}, and {judge.told('audit')} says otherwise", "This is a bug: trust neither, and report it.")
+    raise Trouble(Status.DIFFER, f"two judges differ: {told}, and {judge.name_judges('audit')} says otherwise", "This is a bug: trust neither, and report it.")
 
 
 # ---- what is told of lines

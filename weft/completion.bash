@@ -5,10 +5,10 @@
 # and its options, behind = what they take.
 _weft_forms=(
     "line DIR --help --sign=FILE --introduce=FILE --out=FILE --letter=FILE --wait=TEXT --json"
-    "keep FILE --help --by=TEXT --signer=TEXT,FILE --beside --introduced=FILE --choose --found --stamp=FILE --authority=TEXT,FILE --authorities=DIR --kept=FILE --signers=FILE --json"
+    "keep FILE --help --by=TEXT --signer=TEXT,FILE --beside --introduced=FILE --choose --found --stamp=FILE --authority=TEXT,FILE --authorities=DIR --never-sent=TEXT,DIR --kept=FILE --signers=FILE --json"
     "tell FILE .. --help --json"
     "list FILE TEXT .. --help --json"
-    "judge FILE .. --help --kept=FILE --signers=FILE --authorities=DIR --file=FILE --audit=FILE --carried --top=TEXT --svg=FILE --report=FILE --many=DIR --table=FILE --workers=TEXT --dask=TEXT --tls=FILE,FILE,FILE --reference --json"
+    "judge FILE .. --help --kept=FILE --signers=FILE --authorities=DIR --file=FILE --beacon=TEXT,FILE --audit=FILE --carried --top=TEXT --svg=FILE --report=FILE --many=DIR --table=FILE --workers=TEXT --dask=TEXT --tls=FILE,FILE,FILE --reference --json"
     "log DIR DIR TEXT --help --all --no-time --gone --all-read=TEXT --workers=TEXT --adopt-store=FILE --wait=TEXT --unproved --json"
     "record DIR FILE .. --help --name=TEXT --event=TEXT --key=FILE --input=TEXT --serve --idle=TEXT --no-time --adopt-store=FILE --wait=TEXT --unproved --json"
     "find DIR TEXT .. --help --text=TEXT --all --proofs=DIR --json"
@@ -23,7 +23,7 @@ _weft_forms=(
     "restore FILE DIR DIR --help --held=FILE --key=FILE --wait=TEXT --json"
     "status DIR DIR --help --days=TEXT --json"
     "stamp FILE --help --url=TEXT --renew=FILE --out=FILE --kept=FILE --authorities=DIR --seconds=TEXT --json"
-    "bundle FILE FILE --help --file=FILE --line=FILE --kept=FILE --reference --json"
+    "bundle FILE FILE TEXT --help --file=FILE --line=FILE --kept=FILE --reference --json"
 )
 
 # Offers the folders, files or words that may stand next.

@@ -19,7 +19,7 @@ class LoggedFile(NamedTuple):
     path: str
     digest: str
 
-    def told(self, digest: str) -> str:
+    def describe(self, digest: str) -> str:
         """The file with its digest, or the first digits of that; by no name where the digest was recorded alone."""
         return fill("unnamed file", digest=digest) if self.path.encode() == UNNAMED else fill("file", path=quoted(self.path), digest=digest)
 
@@ -37,10 +37,10 @@ def logged_file(event: bytes) -> Optional[LoggedFile]:
 def told_event(event: bytes) -> str:
     """An event, as a sentence has it: the file with its whole digest, or the event itself."""
     file = logged_file(event)
-    return shown_event(event) if file is None else file.told(file.digest)
+    return shown_event(event) if file is None else file.describe(file.digest)
 
 
 def drawn_event(event: bytes) -> str:
     """The same in a picture, where a digest has its first digits alone."""
     file = logged_file(event)
-    return shown_event(event) if file is None else file.told(f"{file.digest[:FRONT]}..")
+    return shown_event(event) if file is None else file.describe(f"{file.digest[:FRONT]}..")

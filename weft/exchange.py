@@ -382,7 +382,7 @@ class Turn:
         if not is_full:
             return
         if files.is_there(beside(self.store.folder, ".pending")):
-            self.told.append(f"{self.last.service} is to go on in a new part, and a run of weft log was stopped amid a step: run weft log, and then this again.")
+            self.told.append(f"{self.last.service} is to go on in a new part, and a run of weft log or weft record was stopped amid a step: run that, and then this again.")
             self.look()
             return
         new = self.new or parts.name_next(self.service, self.parts, self.kept)
@@ -626,7 +626,7 @@ class Turn:
             if Finding.EVIDENCE in found or placed.outcome is Outcome.NOT_CHOSEN or self.is_disputed(peer, kept.line.step):
                 self.look(Status.CONTRADICTION)
                 if Finding.EVIDENCE not in found:
-                    peer.say(placed.trouble.told())
+                    peer.say(placed.trouble.describe())
             elif Finding.DIFFERENT not in found:
                 self.tell_different(peer, kept.line.step)
 

@@ -6,7 +6,7 @@ import argparse
 import shlex
 from typing import Iterable, Optional, Sequence
 
-from weft import __version__, choosing, dated, lines, listing, packages, pictures, program
+from weft import __version__, beacons, choosing, dated, lines, listing, packages, pictures, program
 from weft.choosing import Judgement
 from weft.deciding.choosing import Headline
 from weft.deciding.commands import in_its_folder
@@ -70,6 +70,7 @@ def facts(options: argparse.Namespace, judge: Bench, kept: KeptLines, group: Seq
             } for line in judgement.counting
         ],
         "not_after": [it.json for it in dated.not_after(judge, options.days, group, judgement, outcome)],
+        "not_before": [it.json for it in beacons.not_before(judge, options.beacons.beacons, group, judgement, outcome)],
         "kept": [str(path) for path in options.kept or [lines.default_kept()]],
         "missing": [needed._asdict() for needed in judgement.missing],
         "not_counting": [{**it.line._asdict(), "date": it.date, "how": it.how} for it in choosing.uncounted(kept, services)],
@@ -96,13 +97,13 @@ def common(inputs: Sequence[Input], judged_by: Sequence[str]) -> Facts:
 
 def program_of() -> Optional[str]:
     """The digest of the program at hand, by which each part of a judgement is that isn't the library's."""
-    path = program.found()
+    path = program.find_program()
     return program.digest_of(path) if path else None
 
 
 def troubled(group: Sequence[Named], trouble: Trouble) -> Facts:
     """What is known of files that weren't judged."""
-    told = {"files": [it.path for it in group], "headline": Headline.NOT_JUDGED.value, "shown": False, "status": int(trouble.status), "says": [trouble.told()]}
+    told = {"files": [it.path for it in group], "headline": Headline.NOT_JUDGED.value, "shown": False, "status": int(trouble.status), "says": [trouble.describe()]}
     return {**told, **common(inputs_of(group, None, None), [])}
 
 

@@ -17,8 +17,9 @@ from contextlib import contextmanager
 from pathlib import Path
 from typing import IO, Callable, Iterator, NamedTuple, Optional, Union
 
-from weft.deciding.keeping import may_be_sent
-from weft.deciding.signatures import is_private_key
+from weft.deciding.gone import is_hollow, least_content, may_be_hollow
+from weft.deciding.keeping import is_anothers, is_of_system, may_be_sent, may_come_beside
+from weft.deciding.signatures import is_private_key, is_public_key
 from weft.output import complain
 from weft.statuses import Status
 from weft.texts import name_of, typed
@@ -97,6 +98,40 @@ def opened(path: AnyPath, follow: bool = True, within: Optional[int] = None) -> 
     if len(READ) < MOST_NOTED:
         READ.add((about.st_dev, about.st_ino))
     return number
+
+
+def expect_content(number: int, path: AnyPath) -> None:
+    """Raises Trouble where an open file has next to no content for its size."""
+    size = os.fstat(number).st_size
+    if may_be_hollow(size) and is_hollow(size, content_of(number, size, least_content(size))):
+        raise Trouble(Status.UNREADABLE, f"{name_of(path)} has {size:,} bytes, and next to none of them are on the disk: it isn't read")
+
+
+def content_of(number: int, size: int, most: int) -> int:
+    """How many bytes of an open file have content, as far as its file system tells where it has none, counted up to so many."""
+    place, found = os.lseek(number, 0, os.SEEK_CUR), 0
+    try:
+        end = 0
+        while found < most and end < size:
+            start = os.lseek(number, end, os.SEEK_DATA)
+            end = os.lseek(number, start, os.SEEK_HOLE)
+            found += end - start
+    except OSError as failure:
+        found = found if failure.errno == errno.ENXIO else size
+    os.lseek(number, place, os.SEEK_SET)
+    return found
+
+
+def expect_own_beside(folder: AnyPath) -> None:
+    """Raises Trouble where something of another user's stands beside a service that is to be made."""
+    for end in OWN_ENDS:
+        path = f"{os.fspath(folder)}{end}"
+        try:
+            owner = os.lstat(path).st_uid
+        except OSError:
+            continue
+        if is_anothers(owner, (os.geteuid(),)):
+            raise Trouble(Status.DISK, f"{name_of(path)} is there already, and is another user's: no service was made beside it", "Make it in a folder of your own.")
 
 
 def read(path: AnyPath, most: int, follow: bool = True, within: Optional[int] = None) -> bytes:
@@ -312,10 +347,11 @@ def remove_quietly(path: str) -> None:
 
 def hand_out(path: AnyPath, data: bytes, goes_on: bool = False) -> None:
     """Makes a file that the user named: a new one as the umask says. A link of that name isn't followed, since whoever sent the folder may have put it there:
-    the file comes in its place, and that is told. Raises Trouble where it is a file of a service, one that was read for this, but for one that it goes on from, or a private
-    key."""
+    the file comes in its place, and that is told. Raises Trouble where it is a file of a service, one that was read for this, but for one that it goes on from, or a key, or a
+    link of the system's."""
     expect_no_own(path)
     expect_unread(path, goes_on)
+    expect_no_stream(path)
     try:
         target = target_of(path)
     except OSError as failure:
@@ -343,7 +379,7 @@ def expect_no_own(path: AnyPath) -> None:
 
 
 def expect_unread(path: AnyPath, goes_on: bool) -> None:
-    """Raises Trouble where a file that is there was read in this run, as kept lines, a proof or a document, and what is handed out doesn't go on from it; or is a private key."""
+    """Raises Trouble where a file that is there was read in this run, as kept lines, a proof or a document, and what is handed out doesn't go on from it; or is a key."""
     try:
         about = os.lstat(path)
     except OSError:
@@ -356,9 +392,51 @@ def expect_unread(path: AnyPath, goes_on: bool) -> None:
     except OSError:
         head = b""
     is_read = not goes_on and (about.st_dev, about.st_ino) in READ
-    if is_read or is_private_key(head):
-        what = "was read for this" if is_read else "is a private key"
+    kind = "private" if is_private_key(head) else "public" if is_public_key(head) else ""
+    if is_read or kind:
+        what = "was read for this" if is_read else f"is a {kind} key"
         raise Trouble(Status.USAGE, f"{name_of(path)} {what}, and isn't written over", "Name another file.")
+
+
+def expect_no_stream(path: AnyPath) -> None:
+    """Raises Trouble where a link leads to a pipe, a terminal or a device, or is one of the system's: no file comes in the place of that."""
+    if not os.path.islink(path):
+        return
+    folder = os.path.realpath(os.path.dirname(os.path.abspath(path)))
+    try:
+        mode = os.stat(path).st_mode
+    except OSError:
+        mode = stat.S_IFREG
+    if is_of_system(folder) or not (stat.S_ISREG(mode) or stat.S_ISDIR(mode)):
+        raise Trouble(Status.USAGE, f"{name_of(path)} is a link of the system's, or leads to no file, and isn't written over", "Name a file.")
+
+
+def expect_beside(path: AnyPath, end: str) -> None:
+    """Raises Trouble where what is to come beside a named file would be written over what somebody else may have put there."""
+    beside_it = f"{os.fspath(path)}{end}"
+    if not os.path.lexists(beside_it):
+        return
+    try:
+        with open(path, "rb") as file:
+            named: Optional[bytes] = file.read(MOST_NOTED)
+    except OSError:
+        named = None
+    if not may_come_beside(named):
+        told = f"{name_of(beside_it)} is there already, and {name_of(path)} is no line that was handed out; it is left as it is"
+        raise Trouble(Status.REFUSED, told, "Name another file, or move that one away.")
+
+
+def expect_begins(path: AnyPath, head: bytes, what: str) -> None:
+    """Raises Trouble where a file stands under a name that nobody typed, and doesn't begin as what is to come in its place."""
+    if not os.path.isfile(path):
+        return
+    try:
+        with open(path, "rb") as file:
+            found = file.read(len(head))
+    except OSError as failure:
+        raise unread(path, failure) from None
+    if found != head:
+        raise Trouble(Status.REFUSED, f"{name_of(path)} is there already, and is no {what}; it is left as it is", "Name another folder.")
 
 
 def unchosen(path: str, data: bytes) -> str:
@@ -439,6 +517,27 @@ def extend(path: AnyPath, data: bytes, at: int, is_lasting: bool = True) -> None
             os.close(number)
         if is_new:
             sync_folder(os.path.dirname(target) or ".")
+    except OSError as failure:
+        raise unwritten(path, failure) from None
+
+
+def opened_to_extend(path: AnyPath) -> int:
+    """The number of a file that grows, which is opened to be extended."""
+    try:
+        return os.open(target_of(path), os.O_WRONLY | os.O_CLOEXEC | os.O_NOFOLLOW)
+    except OSError as failure:
+        raise unwritten(path, failure) from None
+
+
+def extend_open(number: int, path: AnyPath, data: bytes, at: int, is_lasting: bool = True) -> None:
+    """The same as `extend` of a file that was opened so."""
+    try:
+        if os.fstat(number).st_size > at:
+            os.ftruncate(number, at)
+        os.lseek(number, at, os.SEEK_SET)
+        write_all(number, data)
+        if is_lasting:
+            os.fsync(number)
     except OSError as failure:
         raise unwritten(path, failure) from None
 

@@ -26,6 +26,8 @@ DIGEST = re.compile(r"[0-9a-fA-F]{64}")
 LISTED = re.compile(r"\\?([0-9a-fA-F]{64})(?: [ *](.*))?")
 # A file is searched for each of so few digests; for more of them its lines are read.
 FEW = 8
+# How many of a proof's first bytes tell that it is one.
+HEAD = 4
 MOST_LISTED = 1 << 14
 
 

@@ -191,6 +191,14 @@ def hop_of(by: str, entry: Entry, is_bound: bool, tree: TreeProof) -> Hop:
     return Hop(by, line_received(entry), is_bound, received_in(tree))
 
 
+def tellers_in(data: bytes) -> list[str]:
+    """The services by whose word a chain or evidence tells what others recorded; none of another file."""
+    proof, fork = read_proof(data), read_evidence(data)
+    if fork is not None:
+        return [fork.first.service, fork.second.service]
+    return [proof.service, *(hop.entry.service for hop in proof.hops)] if isinstance(proof, precedence.PrecedenceProof) else []
+
+
 def doubted_in(data: bytes, broken: Collection[str]) -> list[Line]:
     """The lines that a chain or evidence tells by the word of services that broke a rule alone; none of another file."""
     proof, fork = read_proof(data), read_evidence(data)
@@ -356,7 +364,7 @@ def first_received(data: bytes) -> Optional[archives.Entry]:
         high = map_files.read_high(data)
     except fields.Malformed:
         return None
-    nearest = high.shown().nearest
+    nearest = high.show_nearest().nearest
     return nearest if nearest is not None and nearest.service == high.service else None
 
 

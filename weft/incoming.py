@@ -9,7 +9,7 @@ import json
 import os
 import struct
 from pathlib import Path
-from typing import IO, Callable, Iterator, Mapping
+from typing import IO, Callable, Iterator, Mapping, Sequence
 
 from weft import files
 from weft.deciding.batching import MOST_EVENT, Handed, handed_by_digest, handed_over, is_key
@@ -52,10 +52,18 @@ def as_json(source: IO[bytes]) -> Iterator[Handed]:
     """Each line is a value of JSON: a text, which is the event in UTF-8; or an object that has the text as `event` or the bytes as `base64`, and may have a `key`."""
     for number, line in enumerate(iter(lambda: source.readline(2 * MOST_HANDED + 1), b""), 1):
         try:
-            value = json.loads(line)
+            value = json.loads(line, object_pairs_hook=object_of)
         except (ValueError, RecursionError):
-            raise unreadable(number, "is no line of JSON") from None
+            raise unreadable(number, "is no line of JSON, or has a name twice") from None
         yield of_json(number, value)
+
+
+def object_of(pairs: Sequence[tuple[str, object]]) -> dict[str, object]:
+    """An object of JSON; raises ValueError where it has a name twice, of which the second would count in silence."""
+    found = dict(pairs)
+    if len(found) < len(pairs):
+        raise ValueError
+    return found
 
 
 def of_json(number: int, value: object) -> Handed:
@@ -80,6 +88,7 @@ def of_file(path: Path, key: bytes = b"") -> Handed:
     """A file is recorded as it is where it is short enough for an event, else by its digest."""
     number = files.opened(path)
     with os.fdopen(number, "rb") as file:
+        files.expect_content(number, path)
         front = file.read(MOST_EVENT + 1)
         if len(front) <= MOST_EVENT:
             return handed_over(front, key)

@@ -51,7 +51,7 @@ def open_part(folder: Path, judge: Bench) -> Part:
     standing.expect(Command.RECORD).tell()
     part = standing.last
     if standing.new is not None or files.is_there(beside(part.folder, ".pending")):
-        raise Trouble(Status.LOOK, f"a run on {name_of(folder)} was stopped amid a step", "Run weft log or weft exchange first, and then this again.")
+        raise Trouble(Status.LOOK, f"a run on {name_of(folder)} was stopped amid a step", "Run weft log, weft record or weft exchange first, and then this again.")
     return part
 
 

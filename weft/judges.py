@@ -237,7 +237,7 @@ class Bench:
             raise nobody(self.is_by_reference)
         return first.audit(proof, anchors, *histories)
 
-    def told(self, call: str) -> str:
+    def name_judges(self, call: str) -> str:
         """The line behind a verdict."""
         names = [judge.name for judge in self.seated(call)]
         return f"judged by: {names[0]}" + "".join(f"; the same by: {name}" for name in names[1:])
@@ -309,12 +309,12 @@ def library_path() -> Optional[str]:
 def bench(is_by_reference: bool = False) -> Bench:
     """The judges at hand."""
     proved: list[Judge] = []
-    is_by_reference = is_by_reference or program.is_second(program.found())
+    is_by_reference = is_by_reference or program.is_second(program.find_program())
     if not is_by_reference:
         own = library()
         if own:
             proved.append(own)
-        path = program.found()
+        path = program.find_program()
         if path:
             proved.append(ProgramJudge(path))
     return Bench(proved, ReferenceJudge() if packages.HAS_REFERENCE else None, is_by_reference)

@@ -5,9 +5,10 @@ from __future__ import annotations
 import fcntl
 import os
 import time
-from contextlib import contextmanager
+from contextlib import contextmanager, suppress
 from typing import Iterator
 
+from weft.deciding.keeping import is_anothers
 from weft.files import PRIVATE, AnyPath, opened, unwritten
 from weft.statuses import Status
 from weft.texts import name_of
@@ -25,10 +26,21 @@ def held(path: AnyPath, wait: float, of: AnyPath) -> Iterator[None]:
     except OSError as failure:
         raise unwritten(path, failure) from None
     try:
+        expect_own(number, path, of)
         wait_for(number, fcntl.LOCK_EX, wait, f"another run of weft is at work on {name_of(of)}")
         yield
     finally:
         os.close(number)
+
+
+def expect_own(number: int, path: AnyPath, of: AnyPath) -> None:
+    """Raises Trouble where a lock is another user's, who could hold it for good: neither this one's nor that of whose things it is."""
+    owners = [os.geteuid()]
+    with suppress(OSError):
+        owners.append(os.stat(of).st_uid)
+    if is_anothers(os.fstat(number).st_uid, owners):
+        told = f"{name_of(path)}, the lock of {name_of(of)}, is another user's, who could hold it for good"
+        raise Trouble(Status.DISK, told, "Take it away, or use a folder in which nobody else may write.")
 
 
 @contextmanager

@@ -26,7 +26,7 @@ from weft.output import complain
 from weft.own import OwnLines
 from weft.parts import Next, Part
 from weft.recorded import expect_end, expect_true, exported_events, make_entries, strange_steps
-from weft.standing import Standing
+from weft.standing import Standing, no_log
 from weft.statuses import Status
 from weft.stores import ClockBack, Store
 from weft.texts import beside, count_of, name_of, steps_of
@@ -140,7 +140,11 @@ class Log:
 
     def make_room(self, events: Sequence[bytes]) -> None:
         """Goes on in a new part where a step of these events has no room in this one."""
-        added = MOST_HEAD + sum(4 + len(event) for event in events)
+        self.make_room_for(sum(4 + len(event) for event in events))
+
+    def make_room_for(self, size: int) -> None:
+        """The same of events that have so many bytes with their lengths."""
+        added = MOST_HEAD + size
         if self.room is None:
             self.room = max(0, parts.MOST_PART - parts.size_of(self.store))
         if must_go_on(parts.MOST_PART - self.room, added, parts.MOST_PART) and self.last.step > 1:
@@ -164,13 +168,17 @@ class Log:
             told = f"you keep a line of another service that is called {called}, and none was made under that name"
             raise Trouble(Status.USAGE, told, "Choose another name. Was this one your own, whose store is lost, go on under a new name too.")
         files.expect_no_own(service)
+        files.expect_own_beside(service)
         made.expect_unmade(service, name)
         files.make_folder(service)
 
     def make_entries(self, standing: Standing, may_make: bool) -> None:
-        """Makes the file of entries where it isn't there: of the store, where a person has named that, and else there are none."""
+        """Makes the file of entries where it isn't there: of the store, where a person has named that, and else there are none. Raises Trouble of a service in which
+        events are recorded."""
         if self.entries.is_there:
             return
+        if files.is_there(beside(self.store.folder, ".records")):
+            raise no_log(self.store)
         count = make_entries(self.entries, exported_events(self.store, self.judge, self.last) if standing.has_events else [])
         if count:
             complain(f"{name_of(self.entries.path)} was made anew, of the store: {count_of(count, 'entry', 'entries')}.")

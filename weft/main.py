@@ -12,7 +12,8 @@ import traceback
 from types import ModuleType
 from typing import NoReturn, Optional, Sequence
 
-from weft import __version__, output, packages, program
+from weft import __version__, output
+from weft.deciding.commands import order_words
 from weft.deciding.worst import worst_of
 from weft.statuses import Status
 from weft.texts import listed, name_of, printable
@@ -30,7 +31,12 @@ OPTIONS = "A word that begins with - is an option: name a file as ./-FILE, or pu
 
 
 class Parser(argparse.ArgumentParser):
-    """A parser whose troubles are sentences, in which nothing stands raw."""
+    """A parser whose troubles are sentences, in which nothing stands raw; of a word, with how many words each of its options has."""
+
+    @property
+    def counts(self) -> dict[str, int]:
+        """How many words each option has."""
+        return {name: it.nargs if isinstance(it.nargs, int) else 1 for it in self._actions for name in it.option_strings}
 
     def error(self, message: str) -> NoReturn:
         """The words are no command."""
@@ -54,10 +60,10 @@ class Version(argparse.Action):
 
 def versions() -> list[str]:
     """weft's version, and what is known of the program and the library that it uses."""
-    from weft import judges
+    from weft import judges, packages, program
 
     told = [f"weft {__version__}"]
-    path = program.found()
+    path = program.find_program()
     if path:
         told.append(f"program {name_of(path)}: logic {program.logic_of(path)}, SHA-256 {program.digest_of(path)}")
     else:
@@ -75,7 +81,8 @@ def versions() -> list[str]:
 
 def parser_of(module: ModuleType, parser: argparse.ArgumentParser) -> None:
     """Gives a word's parser its help, its example and its words."""
-    parser.description = f"{module.SUMMARY[0].upper()}{module.SUMMARY[1:]}. {module.DETAILS}"
+    summary = WORDS[module.NAME]
+    parser.description = f"{summary[0].upper()}{summary[1:]}. {module.DETAILS}"
     parser.epilog = "example:\n" + "\n".join(f"  {line}" for line in module.EXAMPLE.splitlines())
     parser.formatter_class = Formatter
     module.add(parser)
@@ -93,21 +100,31 @@ class Formatter(argparse.RawDescriptionHelpFormatter):
 
 
 def parser(words_given: Sequence[str]) -> Parser:
-    """The parser of all words; where the first one is known, of that alone."""
+    """The parser of the word that is given first; where it is none, the names of all, of which none is loaded."""
     return parser_for(words_given[0] if words_given[:1] and words_given[0] in WORDS else None)
 
 
 @functools.lru_cache(maxsize=None)
 def parser_for(known: Optional[str]) -> Parser:
-    """The parser of a word, or of all."""
+    """The parser of a word, or of the names of all."""
     example = "example:\n  weft line /srv/log --sign ~/.ssh/id_ed25519"
     whole = Parser(prog="weft", description=ABOUT, epilog=example, formatter_class=Formatter, allow_abbrev=False)
     whole.add_argument("--version", nargs=0, action=Version, help="tells the versions and digests of weft and of what it uses")
     words = whole.add_subparsers(metavar="WORD", required=True, parser_class=Parser)
     for word in [known] if known else WORDS:
-        module = module_of(word)
-        parser_of(module, words.add_parser(module.NAME, help=module.SUMMARY, allow_abbrev=False))
+        below = words.add_parser(word, help=WORDS[word], allow_abbrev=False)
+        if known:
+            parser_of(module_of(word), below)
     return whole
+
+
+def ordered(words: Sequence[str]) -> list[str]:
+    """The words of a command, its options in front of the others."""
+    if words[0] not in WORDS:
+        return [*words]
+    alone = Parser(allow_abbrev=False)
+    parser_of(module_of(words[0]), alone)
+    return [words[0], *order_words(words[1:], alone.counts)]
 
 
 def meant(words: Sequence[str]) -> Sequence[str]:
@@ -120,7 +137,7 @@ def meant(words: Sequence[str]) -> Sequence[str]:
 def ended(words: Sequence[str]) -> Status:
     """Runs the command; answers its status."""
     words = meant(words)
-    options = parser(words).parse_args(words)
+    options = parser(words).parse_args(ordered(words))
     status: Status = options.run(options)
     return status
 
@@ -131,10 +148,11 @@ def run(words: Sequence[str]) -> Status:
     try:
         status = ended(words)
     except Trouble as trouble:
-        status, told = trouble.status, trouble.told()
+        status, told = trouble.status, trouble.describe()
     except OSError as failure:
         what = f"{name_of(os.fsdecode(failure.filename))}: " if isinstance(failure.filename, (str, bytes)) else ""
-        status, told = Status.DISK, f"{what}{os.strerror(failure.errno or 0)}. What was there before stands; the next run goes on."
+        why = os.strerror(failure.errno) if failure.errno else printable(str(failure))
+        status, told = Status.DISK, f"{what}{why}. What was there before stands; the next run goes on."
     if "--json" in itertools.takewhile(lambda word: word != "--", words):
         output.end_json(status, told)
     if told is not None:

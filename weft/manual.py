@@ -99,7 +99,8 @@ where you publish, and
 .B open = PEER ..
 (or *) for whom openly. Before anything is published
 .B backup = FILE
-is made, without the key.
+is made, without the key, and before that an authority stamps the line:
+.BR "stamp = URL" .
 .TP
 .I BOX/allowed_signers
 Whose keys are whose, as of
@@ -209,7 +210,7 @@ def word_lines(word: str) -> Iterator[str]:
     parser = argparse.ArgumentParser(prog=f"weft {word}", add_help=False)
     module.add(parser)
     yield f".SS {plain(usage(parser))}"
-    yield plain(f"{sentence(module.SUMMARY)} {module.DETAILS}")
+    yield plain(f"{sentence(WORDS[module.NAME])} {module.DETAILS}")
     yield from [".br", f"Status: {' '.join(str(int(status)) for status in module.STATUSES)}."] if module.STATUSES else []
     for action in parser._actions:
         if not COMMON.intersection(action.option_strings):

@@ -6,13 +6,14 @@ from __future__ import annotations
 import argparse
 import os
 from pathlib import Path
-from typing import Iterator
+from typing import Iterable, Iterator
 
 from weft import files, judges
+from weft.deciding.listing import join_names
 from weft.deciding.matching import digests_of
 from weft.deciding.standing import Command
 from weft.deciding.worst import worst_of
-from weft.finding import Place, Prover, Wanted, beside_it, in_history, in_json, listed, proof_name
+from weft.finding import HEAD, Place, Prover, Wanted, beside_it, in_history, in_json, listed, proof_name
 from weft.judges import Bench
 from weft.output import complain, say, say_json
 from weft.parts import Part
@@ -32,7 +33,7 @@ def prove_many(service: Path, options: argparse.Namespace) -> Status:
     if options.step is not None or options.top is not None or options.reader or options.out is None:
         advice = "weft prove SERVICE --many LIST --out FOLDER, and none of --step, --top and --for."
         raise Trouble(Status.USAGE, "--many takes a list, and a folder for the proofs as --out", advice)
-    wanted = {it.digest: it for it in listed(options.file)}
+    wanted = together(listed(options.file))
     if not wanted:
         raise Trouble(Status.USAGE, f"{name_of(options.file)} names nothing", "A line each: a digest as sha256sum writes it, or a file.")
     judge, folder = judges.bench(), Path(options.out)
@@ -51,6 +52,14 @@ def prove_many(service: Path, options: argparse.Namespace) -> Status:
     return worst_of([Status.REFUSED if lacking else Status.DONE, going.status])
 
 
+def together(found: Iterable[Wanted]) -> dict[str, Wanted]:
+    """What is wanted, by digests: of what has one content one proof is made, which tells all its names."""
+    names: dict[str, list[Wanted]] = {}
+    for it in found:
+        names.setdefault(it.digest, []).append(it)
+    return {digest: same[0]._replace(told=join_names([it.told for it in same])) for digest, same in names.items()}
+
+
 def proved_in(judge: Bench, part: Part, wanted: dict[str, Wanted], folder: Path, is_json: bool) -> Iterator[tuple[str, Path]]:
     """The digests that a part has, each with the file of its proof, which is judged before it is written."""
     history = history_of(part.store, part.last, "No proof was made") if part.last.step else None
@@ -63,6 +72,7 @@ def proved_in(judge: Bench, part: Part, wanted: dict[str, Wanted], folder: Path,
             told = f"the store in {name_of(part.folder)} has something else in step {place.step}, index {place.index}, than what stands beside it tells"
             raise Trouble(Status.OLD_STORE, told, "weft check holds both against each other.")
         path = folder / proof_name(it, place)
+        files.expect_begins(path, proved.proof[:HEAD], "proof")
         files.hand_out(path, proved.proof)
         tell_made(it, place, path, is_json)
         yield digest, path

@@ -16,7 +16,7 @@ from weft.deciding.contradicting import Whole, find_histories_apart, may_count
 from weft.deciding.keeping import was_passed_over
 from weft.deciding.letters import find_slip
 from weft.deciding import rows
-from weft.deciding.matching import Match, match_file, read_logged, whole_digest
+from weft.deciding.matching import Logged, Match, match_file, read_logged, whole_digest
 from weft.deciding.worst import worst_of
 from weft.events import told_event
 from weft.files import Input
@@ -157,7 +157,7 @@ def refutation(judge: Bench, group: list[Named], judgement: Judgement) -> list[s
     for it in group:
         verdict = choosing.judge_alone(seat, it.data, judgement.lines) if it.kind in ARCHIVE_KINDS else None
         if verdict is not None and verdict.is_accepted:
-            return [*reports.refuted_sentences(verdict), seat.told("contradict")]
+            return [*reports.refuted_sentences(verdict), seat.name_judges("contradict")]
     return []
 
 
@@ -170,7 +170,7 @@ def receiver_of(judge: Bench, report: Report, group: list[Named], judgement: Jud
 
 def sentences(judge: Bench, judgement: Judgement, outcome: Outcome) -> list[str]:
     """What is told below the headline: what came of it, and by whom it was judged."""
-    return [*outcome.told, *([judge.told(judgement.call)] if judgement.verdict is not None else [])]
+    return [*outcome.told, *([judge.name_judges(judgement.call)] if judgement.verdict is not None else [])]
 
 
 def report_of(judge: Bench, group: list[Named], judgement: Judgement) -> Optional[Report]:
@@ -439,11 +439,18 @@ def other_file(judge: Bench, outcome: Outcome, told: Sequence[str], aside: str) 
     return outcome._replace(headline=headline, status=status, told=[*told, *outcome.told], aside=f": {fill(aside)}")
 
 
+def documents_of(judge: Bench, outcome: Outcome, judgement: Judgement, group: list[Named]) -> list[Logged]:
+    """The documents that an accepted proof names; none of another one."""
+    if outcome.headline not in (Headline.SHOWN, Headline.IN_PART) or judgement.history is not None:
+        return []
+    report = report_of(judge, group, judgement)
+    return [it for it in (read_logged(event.data) for event in report.events) if it is not None] if report is not None else []
+
+
 def without_file(judge: Bench, outcome: Outcome, judgement: Judgement, group: list[Named]) -> Outcome:
     """The outcome where no document was given: of a proof that names files it is told first that none was compared, and the title of one that is shown says so."""
-    report = report_of(judge, group, judgement) if judgement.history is None else None
-    logged = [it for it in (read_logged(event.data) for event in report.events) if it is not None] if report is not None else []
-    if not logged or outcome.headline not in (Headline.SHOWN, Headline.IN_PART):
+    logged = documents_of(judge, outcome, judgement, group)
+    if not logged:
         return outcome
     names = " or ".join(dict.fromkeys(name_of(os.fsdecode(it.name)) if it.name else "document" for it in logged))
     told = f"{fill('document not given', names=names)} Name it: --file FILE."
@@ -456,6 +463,8 @@ def document_of(path: str, is_whole: bool) -> Input:
     none."""
     digest, count = hashlib.sha256(), 0
     with os.fdopen(files.opened(path), "rb") as file:
+        if is_whole:
+            files.expect_content(file.fileno(), path)
         for piece in iter(lambda: file.read(1 << 20), b""):
             digest.update(piece)
             count += len(piece)
@@ -469,7 +478,7 @@ def document_of(path: str, is_whole: bool) -> Input:
 
 def unheld(outcome: Outcome, trouble: Trouble) -> Outcome:
     """The outcome where something that it was to be held against can't be read, or isn't of the right kind: that is told first, and what was found without it."""
-    told = [trouble.told(), "What was found without that:", *outcome.told]
+    told = [trouble.describe(), "What was found without that:", *outcome.told]
     return under_headline(outcome, choose_headline_unheld(outcome.headline), trouble.status, told)
 
 

@@ -158,7 +158,7 @@ def finish() -> list[Status]:
         note_failure(failure)
     if Written.trouble is None:
         return []
-    complain(Written.trouble.told())
+    complain(Written.trouble.describe())
     return [Written.trouble.status]
 
 

@@ -45,7 +45,7 @@ def digest_of(package: str) -> str:
 def is_named() -> bool:
     """Whether the user has named the place in which weft lies: it is a standard one; or the program that he named, by PATH or by TIMEWEAVE_PROGRAM, is the one
     of that place; or he has named the library."""
-    path = program.found()
+    path = program.find_program()
     is_own = path is not None and Path(path) == (BASE / "bin/timeweave").resolve()
     return str(ABOVE) in STANDARD or is_own or bool(os.environ.get("TIMEWEAVE_LIBRARY"))
 

@@ -2,10 +2,12 @@
 
 from __future__ import annotations
 
+import fcntl
 import functools
 import hashlib
 import os
 import re
+import signal
 import subprocess
 from contextlib import contextmanager, suppress
 from typing import Iterator, NamedTuple, Optional, Sequence
@@ -48,7 +50,7 @@ MOST_STARTER = 4_096
 
 
 @functools.lru_cache(maxsize=None)
-def found() -> Optional[str]:
+def find_program() -> Optional[str]:
     """The path of the program: what TIMEWEAVE_PROGRAM names, else that of the path. What lies beside a weft that was copied may be a sender's, and so may what is named
     from the current folder on: that is refused."""
     named = os.environ.get("TIMEWEAVE_PROGRAM")
@@ -67,17 +69,17 @@ def is_second(path: Optional[str]) -> bool:
 
 def refuse_second(is_wanted: bool) -> None:
     """Raises Trouble where the program at hand is the second implementation and it wasn't asked for: what makes steps is to be proved."""
-    if is_second(found()) and not is_wanted:
+    if is_second(find_program()) and not is_wanted:
         raise Trouble(
             Status.NO_JUDGE,
-            f"{name_of(found() or '')} is the second implementation, which isn't proved: no step is made by it",
+            f"{name_of(find_program() or '')} is the second implementation, which isn't proved: no step is made by it",
             "Name the proved program by TIMEWEAVE_PROGRAM; to try the second one all the same: --unproved.",
         )
 
 
 def needed() -> str:
     """The path of the program; raises Trouble where there is none."""
-    path = found()
+    path = find_program()
     if path is None:
         raise Trouble(
             Status.NO_JUDGE, "the program timeweave isn't on the path", "Install it, or name it by the variable TIMEWEAVE_PROGRAM."
@@ -110,18 +112,26 @@ class Begun:
     """A run of the program that was started ahead, and waits for the last word's file, without which it does nothing: the end of this process too leaves it without."""
 
     def __init__(self, *words: str):
-        reading, self.writing = os.pipe()
-        null, pipe = subprocess.DEVNULL, subprocess.PIPE
+        pipes = [os.pipe() for _ in range(3)]
+        (reading, self.writing), (self.output, output), (self.errors, errors) = pipes
+        with suppress(OSError):
+            fcntl.fcntl(self.writing, SET_PIPE_SIZE, MOST_FED)
+        places = ((output, 1), (errors, 2), (reading, FED))
+        actions = [(os.POSIX_SPAWN_OPEN, 0, os.devnull, os.O_RDONLY, 0), *((os.POSIX_SPAWN_DUP2, number, place) for number, place in places)]
+        all_words = [needed(), *(f"/proc/self/fd/{FED}" if word == WAITED else word for word in words)]
+        # (this process has one thread that makes files)
+        before = os.umask(PRIVATE_UMASK)
         try:
             with starting():
-                path = f"/proc/self/fd/{reading}"
-                all_words = [needed(), *(path if word == WAITED else word for word in words)]
-                self.running = subprocess.Popen(all_words, stdin=null, stdout=pipe, stderr=pipe, umask=PRIVATE_UMASK, pass_fds=[reading])
+                self.number = os.posix_spawn(all_words[0], all_words, environment(), file_actions=actions, setsigdef=RESTORED)
         except BaseException:
-            os.close(self.writing)
+            for it in (self.writing, self.output, self.errors):
+                os.close(it)
             raise
         finally:
-            os.close(reading)
+            os.umask(before)
+            for it in (reading, output, errors):
+                os.close(it)
 
     def feed(self, data: bytes) -> None:
         """Hands the file over. (One that ended before it read all tells why.)"""
@@ -131,18 +141,48 @@ class Begun:
         finally:
             os.close(self.writing)
 
-    def answer(self) -> Answer:
-        """What it answered."""
-        output, errors = self.running.communicate()
-        expect_answer(self.running.returncode, errors)
-        return Answer(self.running.returncode, output)
+    def read(self) -> bytes:
+        """What it has answered so far, once that is something, or it has ended."""
+        return os.read(self.output, PIECE)
+
+    def answer(self, first: bytes = b"") -> Answer:
+        """What it answered, behind what was read first; it has ended then."""
+        try:
+            output, errors = first + read_all(self.output), read_all(self.errors)
+        finally:
+            os.close(self.output)
+            os.close(self.errors)
+            status = os.waitstatus_to_exitcode(os.waitpid(self.number, 0)[1])
+        expect_answer(status, errors)
+        return Answer(status, output)
+
+    def expect_end(self) -> None:
+        """Raises Trouble where it ended otherwise than as it does once it has told a step."""
+        answer = self.answer()
+        if answer.status or answer.output:
+            raise Trouble(Status.BUG, f"timeweave told a step, and ended with status {answer.status}")
 
     def leave(self) -> None:
         """Lets it end without a file."""
         os.close(self.writing)
-        self.running.communicate()
+        with suppress(Trouble):
+            self.answer()
 
 
+@functools.lru_cache(maxsize=None)
+def environment() -> dict[bytes, bytes]:
+    """The environment of this process, as a program that is started takes it."""
+    return dict(os.environb)
+
+
+def read_all(number: int) -> bytes:
+    """What is read from an open file up to its end."""
+    return b"".join(iter(lambda: os.read(number, PIECE), b""))
+
+
+# The number under which it has that file open; and how many bytes its pipe takes at once.
+FED, SET_PIPE_SIZE, MOST_FED = 3, 1031, 1 << 17
+RESTORED = (signal.SIGPIPE, signal.SIGXFSZ)
 # What stands for the file among the words of a run that is started ahead.
 WAITED = "-"
 

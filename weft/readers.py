@@ -25,9 +25,18 @@ def add_for(parser: argparse.ArgumentParser) -> None:
     parser.add_argument("--for", dest="reader", metavar="LINES", type=Path, action="append", help="the reader's lines: it is made under these alone, and those that he lacks are told; may be repeated")
 
 
+class ReadersLines(KeptLines):
+    """The lines that a reader holds: which of two of one step counts, he alone says."""
+
+    def contradiction(self, service: str, step: int, path: Optional[Path] = None) -> Trouble:
+        """That lines of this step contradict."""
+        found = super().contradiction(service, step, path)
+        return Trouble(found.status, f"among the reader's lines {found.sentence}", "Ask him which of them counts: nothing is made for him under either. He says so by weft keep --choose.")
+
+
 def lines_for(options: argparse.Namespace) -> Optional[KeptLines]:
     """The reader's lines; None where none are named, and the proof is for whoever holds one's own."""
-    return kept_of(options.reader) if options.reader else None
+    return ReadersLines(named=options.reader) if options.reader else None
 
 
 def told_for(options: argparse.Namespace) -> str:
@@ -42,6 +51,8 @@ def expect_same(service: Path, judge: Bench, found: Sequence[Part], reader: Kept
     if later is not None:
         raise later.trouble
     for part in found:
+        for disputed in reader.disputes_of(part.last.service):
+            raise reader.contradiction(*disputed)
         for step in reader.steps(part.last.service):
             line = reader.one(part.last.service, step) if step else None
             if line is not None and step > part.last.step:

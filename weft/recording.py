@@ -1,26 +1,32 @@
 """A service in which whoever has a register, a queue or an application records events. Beside the folder SERVICE stand, with the lines as of a log,
 
-    SERVICE.records   step, index, digest and key of what was recorded, in lines; those of a step are on the disk before it is made
+    SERVICE.records   step, index, digest and key of what was recorded, in lines; those of a step that has keys are on the disk before it is made
     SERVICE.keys      which key was recorded where: made anew of SERVICE.records where it was lost
+    SERVICE.pending   from which step on the lines of steps without keys are put there beside the making of the step, and before anybody is told: of the last one
+                      they are made anew of the store, where a run was stopped amid it
 
 A step has what waited when it was begun, up to 1,024 events. What is told to be recorded is in the store for good. A run that was stopped amid a step is
 brought to its end by the next one: the store says whether the step was made."""
 
 from __future__ import annotations
 
+import hashlib
+import os
+import re
+import struct
 import time
 from contextlib import suppress
 from pathlib import Path
 from typing import Callable, Iterable, Iterator, NamedTuple, Optional, Sequence, Union
 
 from weft import files, own
-from weft.deciding.batching import Handed, Made, Recorded, Settled, count_before_repeat, count_of_step, find_other_step, handed_before, is_recorded_as, is_untold, read_made, read_record, sample_of, settle_step, steps_of_records, write_made, write_records
+from weft.deciding.batching import OWN_WORDS, Handed, Made, Recorded, Settled, count_before_repeat, count_of_step, find_other_step, handed_before, is_recorded_as, is_untold, read_made, read_record, sample_of, settle_step, split_framed, steps_of_records, write_made, write_plain_records, write_records
 from weft.deciding.checking import EntryState
 from weft.deciding.standing import Command
 from weft.formats import MOST_EVENTS, MOST_STEP, events_file
 from weft.judges import Bench
 from weft.keyed import Keys
-from weft.lines import Line
+from weft.lines import Line, read_line
 from weft.logs import Log
 from weft.output import complain
 from weft.parts import Part
@@ -33,6 +39,9 @@ from weft.trouble import Trouble
 
 # The lines of one step have no more bytes.
 MOST_TAIL = MOST_EVENTS * 160
+# Of the steps that are made one behind another the first ones have their lines on the disk before: so many that the note of those which needn't is worth its price.
+FIRST_BESIDE = 4
+BESIDE = re.compile(rb"beside ([0-9]{1,13})\n")
 
 
 class Receipt(NamedTuple):
@@ -63,6 +72,7 @@ class Records:
 
     def __init__(self, folder: Path):
         self.path = beside(folder, ".records")
+        self.number: Optional[int] = None
 
     @property
     def is_there(self) -> bool:
@@ -126,14 +136,32 @@ class Records:
 
     def put(self, at: int, data: bytes) -> int:
         """Puts the lines of a step at a place, behind which nothing stands then; they are on the disk before this returns. Answers where they end."""
-        files.extend(self.path, data, at)
+        self.write(at, data, is_lasting=True)
         return at + len(data)
+
+    def write(self, at: int, data: bytes, is_lasting: bool) -> None:
+        """Puts bytes at a place; where the file is held open, behind what this wrote before or over it."""
+        if self.number is None:
+            files.extend(self.path, data, at, is_lasting)
+            return
+        files.extend_open(self.number, self.path, data, at, is_lasting)
+
+    def hold_open(self) -> None:
+        """Holds the file open, so that many steps are put without looking where it stands."""
+        if self.number is None:
+            self.number = files.opened_to_extend(self.path)
+
+    def release(self) -> None:
+        """Holds it open no longer."""
+        if self.number is not None:
+            os.close(self.number)
+            self.number = None
 
     def note_made(self, at: int, made: Made) -> int:
         """Says at a place that the step whose lines stand before it was made; answers where that ends. It is on the disk with the next step's lines: the store
         tells it too."""
         data = write_made(made)
-        files.extend(self.path, data, at, is_lasting=False)
+        self.write(at, data, is_lasting=False)
         return at + len(data)
 
 
@@ -144,6 +172,11 @@ class Recorder(Log):
 
     def __init__(self, service: Path, judge: Bench, may_claim: bool = True):
         self.may_claim, self.is_ahead = may_claim, False
+        self.wait_for: Callable[[int], None] = lambda number: None
+        self.fed: Callable[[], None] = lambda: None
+        self.beside: Optional[Callable[[], None]] = None
+        self.ended: Optional[Begun] = None
+        self.records: Records = Records(service)
         self.begun: Optional[tuple[Store, Begun]] = None
         super().__init__(service, judge)
         self.keys = Keys(beside(service, ".keys"))
@@ -151,9 +184,10 @@ class Recorder(Log):
     def enter(self, folder: Path, last: Line) -> None:
         """Goes on in a part."""
         super().enter(folder, last)
+        self.release()
         self.records = Records(folder)
         self.ends = self.records.tail().ends if self.records.is_there else 0
-        self.noted = 0
+        self.noted, self.steps, self.is_beside = 0, 0, False
 
     def begin(self, name: Optional[str], adopted: Optional[Line] = None) -> None:
         """Opens the service as a log is opened; and sees to it that what is known of keys has all that was recorded."""
@@ -183,11 +217,46 @@ class Recorder(Log):
             yield write_records(step, [handed_before(event) for event in events])
 
     def go_on(self) -> None:
-        """Cuts off the records of a step that a stopped run hadn't made, and notes where those of one that it had made belong."""
+        """Cuts off the records of a step that a stopped run hadn't made, and notes where those of one that it had made belong; of one whose lines were put there beside the
+        making, and not all, they are made anew of the store."""
+        noted = BESIDE.fullmatch(files.read_if_there(self.pending, MOST_EVENTS) or b"")
+        beside_from = int(noted[1]) if noted is not None else None
         tail = self.records.tail()
-        self.ends = tail.ends
-        if not tail.lines:
+        self.ends, known = tail.ends, tail.lines[0].step if tail.lines else 0
+        if beside_from is not None and known >= beside_from and self.is_in_part(tail):
+            self.ends, known = tail.begins, known - 1
+        elif tail.lines:
+            self.settle(tail)
+        if beside_from is not None:
+            self.put_lacking(max(beside_from, known + 1))
+        files.remove(self.pending)
+
+    def is_in_part(self, tail: Tail) -> bool:
+        """Whether the records end with the first lines of a step that the store has, and not all of them."""
+        if not tail.lines or tail.made is not None or tail.lines[0].step > self.last.step:
+            return False
+        step, count = tail.lines[0].step, len(tail.lines)
+        return self.store.count(step, self.last.step) > count and self.has(step, tail.lines)
+
+    def put_lacking(self, first: int) -> None:
+        """Makes the lines of the first step from one on that has events, other than words of the service of itself, anew of the store."""
+        last = self.last.step
+        steps = ((step, self.store.count(step, last)) for step in range(first, last + 1))
+        found = next(((step, count) for step, count in steps if count and not self.event(step, 0).startswith(OWN_WORDS)), None)
+        if found is None:
+            files.extend(self.records.path, b"", self.ends)
             return
+        step, count = found
+        self.ends = self.records.put(self.ends, write_records(step, [handed_before(self.event(step, index)) for index in range(count)]))
+        self.ends = self.records.note_made(self.ends, Made(step, own.line_at(self.store, self.judge, step, self.last).authenticator))
+        complain(f"Step {step} of {self.last.service} was made by a run that was stopped: its lines in {name_of(self.records.path)} were made anew, of the store.")
+
+    def event(self, step: int, index: int) -> bytes:
+        """An event of the store, which is proved."""
+        return own.event_at(self.store, self.judge, step, index, self.last)
+
+    def settle(self, tail: Tail) -> None:
+        """Sees what became of the last step of the records."""
         begun = tail.lines[0].step
         made = self.find_made(begun, tail)
         found = settle_step(begun, self.last.step, made, tail.made is not None)
@@ -210,10 +279,12 @@ class Recorder(Log):
         return next((step for step in range(begun, self.last.step + 1) if self.is_recorded(step, tail.lines)), None)
 
     def is_recorded(self, step: int, lines: Sequence[Recorded]) -> bool:
-        """Whether the step has these events: so many, and of them the first, the middle and the last one."""
-        if self.store.count(step, self.last.step) != len(lines):
-            return False
-        return all(is_recorded_as(lines[place].digest, own.event_at(self.store, self.judge, step, place, self.last)) for place in sample_of(len(lines)))
+        """Whether the step has these events, and no more."""
+        return self.store.count(step, self.last.step) == len(lines) and self.has(step, lines)
+
+    def has(self, step: int, lines: Sequence[Recorded]) -> bool:
+        """Whether the step has these events, of which the first, the middle and the last one are looked at."""
+        return all(is_recorded_as(lines[place].digest, self.event(step, place)) for place in sample_of(len(lines)))
 
     def note_others(self) -> None:
         """Keeps the last line where others made steps, and tells of those that have events."""
@@ -240,14 +311,53 @@ class Recorder(Log):
         except BaseException:
             self.ends = at
             raise
+        self.note_step(begun, at, lambda step: write_records(step, events))
+        self.keys.add(self.last.service, self.last.step, events, self.ends)
+        return [Receipt(self.last.service, self.last.step, index, it.digest.decode()) for index, it in enumerate(events)]
+
+    def record_framed(self, count: int, body: bytes) -> Line:
+        """Records events without keys, which are framed as they go into a step, in one step, and answers its line. Where many are made their lines are put into the records
+        beside the making."""
+        self.steps += 1
+        if not self.is_ahead or self.steps < FIRST_BESIDE:
+            self.record([Handed(hashlib.sha256(event).hexdigest().encode(), event, b"") for event in split_framed(body)])
+            return self.last
+        self.make_room_for(len(body))
+        self.begin_beside()
+        at, begun, lines = self.ends, self.last.step + 1, b""
+
+        def put_lines() -> None:
+            """Puts the lines there, as of the step that is being made."""
+            nonlocal lines
+            lines = write_plain_records(begun, split_framed(body))
+            self.ends = self.records.put(at, lines)
+
+        try:
+            self.beside = put_lines
+            self.last = self.appended(b"TWE1" + struct.pack(">I", count) + body, self.now())
+        except BaseException:
+            self.ends = at
+            raise
+        finally:
+            self.beside = None
+        self.note_step(begun, at, lambda step: write_plain_records(step, split_framed(body)))
+        return self.last
+
+    def begin_beside(self) -> None:
+        """Notes, on the disk, from which step on lines are put there beside the making."""
+        if not self.is_beside:
+            files.extend(self.pending, b"beside %d\n" % (self.last.step + 1), 0)
+            self.records.hold_open()
+            self.is_beside = True
+
+    def note_step(self, begun: int, at: int, lines_of: Callable[[int], bytes]) -> None:
+        """Notes in the records that a step was made, and which, where others made some in between."""
         self.expect_following(self.last.step)
         if self.last.step != begun:
-            self.ends = self.records.put(at, write_records(self.last.step, events))
+            self.ends = self.records.put(at, lines_of(self.last.step))
             self.tell_others_amid(range(begun, self.last.step))
         self.ends = self.records.note_made(self.ends, Made(self.last.step, self.last.authenticator))
-        self.keys.add(self.last.service, self.last.step, events, self.ends)
         self.noted = self.ends
-        return [Receipt(self.last.service, self.last.step, index, it.digest.decode()) for index, it in enumerate(events)]
 
     def now(self) -> Optional[int]:
         """The time that a step claims, if it may claim one."""
@@ -256,17 +366,40 @@ class Recorder(Log):
     def append(self, events: bytes, time: Optional[int]) -> Line:
         """The line of a step that is appended: where many steps are made, by a program that was started while the one before was made, and begins once it has the
         events."""
+        ended, self.ended = self.ended, None
+        if ended is not None:
+            ended.expect_end()
         begun = self.left_begun(self.store)
         if begun is None and not self.is_ahead:
             return super().append(events, time)
         begun = begun or self.store.begin_append(time)
         if begun is None:
+            self.put_beside()
             return super().append(events, time)
         begun.feed(events)
+        self.fed()
         with suppress(Trouble):
             ahead = self.store.begin_append(self.now())
             self.begun = (self.store, ahead) if ahead is not None else None
-        return self.store.appended(begun.answer())
+        try:
+            self.put_beside()
+            self.wait_for(begun.output)
+            told = begun.read()
+        except BaseException:
+            begun.answer()
+            raise
+        line = read_line(told.decode("ascii", "replace").strip()) if told.endswith(b"\n") else None
+        if line is None:
+            return self.store.appended(begun.answer(told))
+        # (the line is told once the step is made; that the program ends as it should is seen before the next step)
+        self.ended = begun
+        return line
+
+    def put_beside(self) -> None:
+        """Does what is to be done beside the making of a step, once."""
+        beside, self.beside = self.beside, None
+        if beside is not None:
+            beside()
 
     def left_begun(self, store: Optional[Store]) -> Optional[Begun]:
         """The program that was started ahead for a store; one for another store is let go."""
@@ -280,6 +413,7 @@ class Recorder(Log):
         """The line of the last step, which is noted as one that is handed out."""
         self.lines.note(self.last)
         self.close()
+        self.is_beside = False
         return self.last
 
     @property
@@ -292,6 +426,23 @@ class Recorder(Log):
         self.left_begun(None)
         self.keys.rest(self.last.service, self.noted)
         self.keys.close()
+        if self.is_beside:
+            files.remove(self.pending)
+        self.steps, self.is_beside = 0, False
+        self.release()
+
+    def let_go(self) -> None:
+        """Leaves all as it stands, where a trouble has ended the work."""
+        for leave in (lambda: self.left_begun(None), self.release):
+            with suppress(Trouble):
+                leave()
+
+    def release(self) -> None:
+        """Holds no file open, and waits for no program that has answered."""
+        ended, self.ended = self.ended, None
+        self.records.release()
+        if ended is not None:
+            ended.expect_end()
 
     def find_key(self, it: Handed) -> Optional[Receipt]:
         """Where an event of this key was recorded before, which is proved; raises Trouble where the key is that of something else, or the store hasn't recorded
@@ -321,7 +472,7 @@ def record_all(recorder: Recorder, events: Sequence[Handed], tell: Callable[[int
         except Trouble as trouble:
             if trouble.status is not Status.REFUSED:
                 raise
-            found = trouble.told()
+            found = trouble.describe()
         if found is not None:
             tell(place, found)
         return found is not None
@@ -358,7 +509,7 @@ def look_at_records(folder: Path, last: Line, steps: Iterator[tuple[int, Sequenc
 
     try:
         tail = records.tail()
-        if tail.made is None and tail.lines and tail.lines[0].step > last.step:
+        if files.is_there(beside(folder, ".pending")) or tail.made is None and tail.lines and tail.lines[0].step > last.step:
             complain(f"{name_of(records.path)} wasn't looked at: a run of weft record was stopped amid a step. Run it again first.")
             return EntryState.AMID_A_STEP
         seen = noted_steps()
@@ -366,15 +517,15 @@ def look_at_records(folder: Path, last: Line, steps: Iterator[tuple[int, Sequenc
         for _ in seen if step is None else ():
             pass
     except Trouble as trouble:
-        complain(trouble.told())
+        complain(trouble.describe())
         return EntryState.DIFFERING
     except ValueError:
-        complain(records.changed("its lines are out of order").told())
+        complain(records.changed("its lines are out of order").describe())
         return EntryState.DIFFERING
     if step is None and untold:
         complain(f"{name_of(records.path)} tells nothing of {steps_of(untold)}, with events: others made that, or its lines were taken out. weft find --all reads the store.")
         return EntryState.MISSING
     if step is None:
         return EntryState.GOOD
-    complain(records.changed(f"of step {step} it tells what the store hasn't").told())
+    complain(records.changed(f"of step {step} it tells what the store hasn't").describe())
     return EntryState.DIFFERING

@@ -12,13 +12,15 @@ import tarfile
 from pathlib import Path
 from typing import IO, NamedTuple, Optional, Sequence
 
-from weft import backups, files, judges, locks, parts
+from weft import backups, files, judges, lines, locks, made, parts, stamps
 from weft import box as boxes
 from weft.backups import MOST_LIST, PIECE, begins_as_backup, faults_of_tar, opened_tar
-from weft.deciding.backups import BESIDE, BOX, KEY, KEYS, LIST, OWN, PUBLIC, SERVICE, Begin, Item, Manifest, Present, Recorded, Target
-from weft.deciding.backups import find_faulty, is_key_file, list_to_ask, may_be_named, read_manifest, weigh_present, weigh_target
+from weft.deciding.backups import BESIDE, BOX, KEY, KEYS, LIST, MADE, OWN, PUBLIC, SERVICE, STAMPS, Begin, Item, Manifest, Present, Recorded, Target
+from weft.deciding.backups import find_faulty, is_key_file, list_narrowed, list_to_ask, list_written, may_be_named, mode_put_back, read_manifest, read_stamp_name
+from weft.deciding.backups import weigh_present, weigh_target
 from weft.deciding.going_on import is_name_of_part
 from weft.deciding.restoring import Told
+from weft.deciding.stamps import Placing, read_pieces
 from weft.deciding.standing import BY_KEPT_LINES, Against, Command
 from weft.judges import Bench
 from weft.lines import KeptLines
@@ -27,7 +29,7 @@ from weft.own import OwnLines, ToldLines
 from weft.progress import with_progress
 from weft.standing import Standing
 from weft.statuses import Status
-from weft.texts import beside, listed, name_of
+from weft.texts import beside, count_of, listed, name_of, typed
 from weft.trouble import Trouble
 
 END = ".restoring"
@@ -158,12 +160,12 @@ class Unpacking:
             raise unreadable(self.backup, f"was changed: no backup has such a thing as {name_of(entry.name)}")
         path, mode = self.places.of(entry.name), entry.mode & 0o777
         try:
+            if entry.name.count("/") == 1 and entry.name.startswith((f"{OWN}/", f"{KEYS}/")):
+                path.parent.mkdir(files.PRIVATE_FOLDER, exist_ok=True)
             if entry.isdir():
                 path.mkdir(files.PRIVATE_FOLDER)
                 self.items.append(Item(entry.name, mode))
                 return
-            if entry.name.startswith((f"{OWN}/", f"{KEYS}/")):
-                path.parent.mkdir(files.PRIVATE_FOLDER, exist_ok=True)
             number = os.open(path, os.O_WRONLY | os.O_CREAT | os.O_EXCL | os.O_CLOEXEC | os.O_NOFOLLOW, files.PRIVATE)
         except (FileExistsError, FileNotFoundError, NotADirectoryError):
             raise unreadable(self.backup, f"was changed: {name_of(entry.name)} isn't in its place") from None
@@ -319,7 +321,7 @@ def unpack(wanted: Wanted, places: Places, manifest: Manifest) -> None:
         expect_not_older(wanted, places, manifest, judges.bench())
         make_copies(places)
         for item in sorted(manifest.items, key=lambda it: -len(it.name)):
-            os.chmod(places.of(item.name), item.mode)
+            os.chmod(places.of(item.name), mode_put_back(item))
         os.sync()
         files.renew(places.mark, f"{manifest.digest}\n".encode())
         files.sync_folder(places.own.parent)
@@ -344,19 +346,20 @@ def put(wanted: Wanted, places: Places, manifest: Manifest) -> tuple[list[str], 
     looks, told = list[str](), list[str]()
     try:
         for name, path in backups.own_files():
-            more = put_own(wanted, places.of(name), name, path)
+            more = put_stamps(wanted, places, manifest) if name == STAMPS else put_made(places.of(name), path) if name == MADE else put_own(wanted, places.of(name), name, path)
             looks, told = [*looks, *more[0]], [*told, *more[1]]
         if places.box is not None and files.is_there(places.of_box):
             os.rename(places.of_box, places.box)
             files.sync_folder(places.box.parent)
         more = put_key(wanted, places)
-        looks, told = [*looks, *more[0]], [*told, *more[1]]
+        looks, told = [*looks, *more[0], *named_elsewhere(places)], [*told, *more[1], *narrowed(manifest)]
         if places.box is None and any(item.name == BOX for item in manifest.items):
             told.append("The box that is in the backup wasn't put back: to have it, name a folder for it too")
         listed_names = {item.name for item in manifest.items}
         for end in BESIDE:
             put_beside(places, wanted.folder, end, SERVICE + end in listed_names)
         files.sync_folder(wanted.folder.parent)
+        made.note(wanted.folder, manifest.lines[0].service)
         os.rename(places.own / SERVICE, wanted.folder)
         files.sync_folder(wanted.folder.parent)
     except OSError as failure:
@@ -386,6 +389,26 @@ def put_own(wanted: Wanted, unpacked: Path, name: str, path: Path) -> tuple[list
     return [left_as_it_is(wanted, name, path)] if present is Present.LACKS else [], []
 
 
+def put_made(unpacked: Path, path: Path) -> tuple[list[str], list[str]]:
+    """Adds to what is noted here as made what the backup has so."""
+    count = made.put_back(path, files.read(unpacked, made.MOST_BYTES)) if files.is_there(unpacked) else 0
+    return [], [f"{name_of(path)} has {count_of(count, 'row')} of the backup: what is named there isn't made once more"] if count else []
+
+
+def put_stamps(wanted: Wanted, places: Places, manifest: Manifest) -> tuple[list[str], list[str]]:
+    """Keeps each stamp of the backup, as one that comes is kept: beside what is there, or in the place of that from which it goes on. What isn't a stamp is left and told."""
+    looks, count, kept = list[str](), 0, lines.default_kept()
+    for item in manifest.items:
+        if not item.digest or not item.name.startswith(f"{STAMPS}/"):
+            continue
+        line, data = read_stamp_name(item.name), files.read(places.of(item.name), MOST_OWN)
+        if line is None or read_pieces(data) is None:
+            looks.append(f"{name_of(item.name)} is no stamp, and isn't put back (tar -xOf {name_of(wanted.backup)} {typed(item.name)})")
+        else:
+            count += stamps.keep_stamp(kept, line, data) is not Placing.KNOWN
+    return looks, [f"{count_of(count, 'stamp')} of the backup {'are' if count > 1 else 'is'} kept beside {name_of(kept)}"] if count else []
+
+
 def left_as_it_is(wanted: Wanted, name: str, path: Path) -> str:
     """That a file that is there lacks something of the backup's."""
     return f"{name_of(path)} lacks lines that the backup has, and is left as it is: look at both (tar -xOf {name_of(wanted.backup)} {name})"
@@ -406,6 +429,24 @@ def put_key(wanted: Wanted, places: Places) -> tuple[list[str], list[str]]:
     if named is not None and not files.is_there(named):
         looks.append(f"{name_of(named)}, the key that box.conf names, isn't there: the next turn needs it")
     return looks, told
+
+
+def named_elsewhere(places: Places) -> list[str]:
+    """That the box.conf of the backup has a turn write into places outside of its box, which nobody named here."""
+    if places.box is None or not files.is_there(places.box):
+        return []
+    settings = boxes.read_settings(places.box)
+    named = {name: os.path.realpath(path) for name, path in (("publish", settings.publish), ("backup", settings.backup)) if path is not None}
+    where = name_of(places.box / "box.conf")
+    written = list_written(list(named.items()), os.path.realpath(places.box))
+    return [f"{where} is that of the backup, and weft exchange would write where it says, outside of its box: look first at {name} = {name_of(named[name])}" for name in written]
+
+
+def narrowed(manifest: Manifest) -> list[str]:
+    """That others may read or write less than the backup says."""
+    found = list_narrowed(manifest.items)
+    what = "Others could read or write {} of the backup, as {}; now its user alone can, and chmod gives it to others"
+    return [what.format(count_of(len(found), "file or folder", "files or folders"), name_of(found[0]))] if found else []
 
 
 def put_key_file(wanted: Wanted, unpacked: Path, name: str, path: Path) -> list[str]:

@@ -1,4 +1,4 @@
-"""What weft and the page say of an answer: each sentence stands here once, and tests/acceptance/cases/said.py has the claim that each stands for.
+"""What weft and the page say of an answer: each sentence stands here once, and tests/texts/cases/said.py has the claim that each stands for.
 
     python3 -m weft.sentences > web/page/sentences.mjs    hands them to the page
 
@@ -126,7 +126,24 @@ SENTENCES = {
     "stamp weak": "it names its text by a digest that is too weak ({said}).",
     "stamp changed": "it was changed, or isn't one that counts ({said}).",
     "stamp unchecked": "it couldn't be checked, and nothing is said of it ({said}).",
+    # values that nobody knew before a day
+    "event not before": "Event {index} of step {step} of {service} was recorded not before {day}, if nobody knew what is in {file} earlier (not proved).",
+    "beacon unmet": "{file} is no event of this proof, so it tells no day.",
+    "beacon unshown": "What isn't shown by your lines alone has no day by a beacon.",
+    "days crossed": "Event {index} of step {step} of {service} would have been there before it could be: the authority's clock is wrong, or the beacon's day.",
     # lines that came in one file with a proof
+    "no bundle": "{file} is no bundle of weft: {why}",
+    "unfit long": "it is longer than a bundle may be",
+    "unfit end": "its end isn't that of a zip file, or something stands behind it, as a comment",
+    "unfit place": "its directory doesn't stand behind its files, or something stands before or between them",
+    "unfit name": "it has a name that no bundle has, as a path",
+    "unfit twice": "it has a name twice",
+    "unfit packed": "a file in it is packed, locked, a link, or not as weft bundle writes it",
+    "unfit changed": "a file in it was changed or cut",
+    "unfit lacks": "it lacks a proof, lines or the text for its reader",
+    "ask for bundle": "Ask for it again, as weft bundle wrote it.",
+    "bundle apart": "{file} has two files that aren't judged together",
+    "bundle many lines": "{file} has {count} lines, and {most} are read",
     "bundle yours": "The line of step {step} of {service} in the file is the one that you kept.",
     "bundle key": "The line of step {step} of {service} in the file is signed by a key that you noted of {service}: {by}.",
     "bundle stamp": "That the line of step {step} of {service} in the file is {service}'s only the sender says: an authority says that it was there, and not whose it is.",

@@ -182,7 +182,7 @@ class Server:
     def followed(self, address: Address, most: int, wanted: Optional[int]) -> bytes:
         """The bytes of an address, or of that on the same host to which the server sends."""
         for _ in range(MOST_REDIRECTS + 1):
-            response = self.asked(address)
+            response = self.ask_once(address)
             if response.status == 200:
                 return body(response, most, wanted)
             if response.status not in REDIRECTS:
@@ -194,7 +194,7 @@ class Server:
             address = onward
         raise Unanswered(f"the server sent on more than {MOST_REDIRECTS} times")
 
-    def asked(self, address: Address) -> http.client.HTTPResponse:
+    def ask_once(self, address: Address) -> http.client.HTTPResponse:
         """The answer of the server, whose body is still to come; once more where a connection that stood was closed meanwhile."""
         was_open = self.connection is not None
         try:

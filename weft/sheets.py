@@ -57,7 +57,7 @@ def code(text: Optional[str]) -> str:
 # ---- a judgement
 
 
-def judged(facts: Mapping[str, Any], picture: Optional[str]) -> str:
+def write_judgement(facts: Mapping[str, Any], picture: Optional[str]) -> str:
     """The section of a judgement: its headline, what was said, by which way, on whose lines, and the exact text."""
     names = " and ".join(map(name_of, facts["files"]))
     told = [text for text in facts["says"] if not is_of_lines(text)]
@@ -140,5 +140,5 @@ def page(each: Sequence[Facts], pictures: Sequence[Optional[str]], between: Sequ
     title = tag("h1", "Report of a judgement by Timeweave") + tag("p", marked(f"Judged on {day}, by the clock of the machine that judged."))
     title += tag("p", marked(f"It ended with status {int(status)}: {MEANINGS[status]}"))
     together = tag("section", tag("h2", "The files together"), paragraphs(between)) if between else ""
-    sections = [judged(facts, picture) for facts, picture in zip(each, pictures)]
+    sections = [write_judgement(facts, picture) for facts, picture in zip(each, pictures)]
     return "\n".join([head + title, together, *sections, rests(each), origins(each), "</body>\n</html>\n"]).encode()

@@ -71,14 +71,14 @@ class Answers:
         if proof is None or of is None:
             return []
         lines = self.signed_lines(of, proof.top)
-        told = next((it for line in lines if (it := noted.get((digest_of(data), line.text)) or self.judged(data, line)) is not None), None)
+        told = next((it for line in lines if (it := noted.get((digest_of(data), line.text)) or self.judge_line(data, line)) is not None), None)
         return [] if told is None else [Answer(path, data, of, told)]
 
     def signed_lines(self, peer: Peer, step: int) -> list[Line]:
         """The lines of a peer's step that are signed by a key that is noted of it now."""
         return [signed.line for signed in peer.signed_at(step) if self.key_of(signed) is not None]
 
-    def judged(self, data: bytes, line: Line) -> Optional[Told]:
+    def judge_line(self, data: bytes, line: Line) -> Optional[Told]:
         """What an answer tells under a line; None where it isn't accepted."""
         return formats.told_by(data, [line]) if self.judge.judge("strict", data, anchors([line])).is_accepted else None
 

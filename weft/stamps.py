@@ -1,7 +1,8 @@
 """Stamps of lines by time-stamping authorities: asked for over the web, checked by `openssl ts`, and kept beside the lines. Nothing here checks anything itself; the rules
 stand in `weft.deciding.stamps`.
 
-Beside a file KEPT of kept lines stands a folder KEPT.stamps, with a folder for each service, and in that a file for each stamp of one of its lines. Which authorities
+Beside a file KEPT of kept lines stands a folder KEPT.stamps, with a folder for each service, and in that a file for each stamp of one of its lines; those of a service's own
+lines, SERVICE.lines, stand so in SERVICE/stamps. Which authorities
 count a person says, whose certificates stand in a folder of the user's own, by the names that the user gave them."""
 
 from __future__ import annotations
@@ -38,6 +39,7 @@ MOST_HEADS = 1 << 16
 QUERY = "application/timestamp-query"
 DIGEST = "-sha512"
 END = ".pem"
+NO_AUTHORITY = "you trust no time-stamping authority: weft keep --authority NAME FILE notes the certificates of one"
 # Certificates and their signatures have at least this strength, as openssl counts it: 112 bits.
 LEVEL = "2"
 
@@ -171,6 +173,12 @@ class Bench:
         except Trouble as trouble:
             return Weighed(Fault.UNCHECKED, said=trouble.sentence)
 
+    def made_at(self, data: bytes) -> Optional[int]:
+        """The second that the last stamp of a file tells; None where none can be read."""
+        piece = (read_pieces(data) or (b"",))[-1]
+        stamp = self.read(piece, self.put("last.stamp", piece))
+        return stamp.second if stamp is not None else None
+
     def read(self, piece: bytes, path: str) -> Optional[Stamp]:
         """What openssl reads in an answer; None where it reads nothing. Raises Trouble where it didn't end by itself."""
         ran = openssl("ts", "-reply", "-in", path, *(["-token_in"] if is_token(piece) else []), "-token_out", "-text")
@@ -193,7 +201,7 @@ class Bench:
 # ---- a stamp is asked for
 
 
-def asked(line: Line, before: Sequence[bytes], address: Address, seconds: int, bench: Bench) -> bytes:
+def ask_authority(line: Line, before: Sequence[bytes], address: Address, seconds: int, bench: Bench) -> bytes:
     """The answer of an authority, as it came, to a query for a line with the stamps that it renews. Raises Unanswered where none came, and Trouble where it isn't good."""
     text = bench.put("text", f"{line.text}\n".encode() + b"".join(before))
     made = openssl("ts", "-query", "-data", text, DIGEST, "-cert")
@@ -243,11 +251,27 @@ def folder_of(kept: files.AnyPath, service: str) -> Path:
     return beside(kept, ".stamps") / service
 
 
+def own_folder(service: Path) -> Path:
+    """The folder of the stamps of a service's own lines, within that of the service, so that a backup has them."""
+    return service / "stamps"
+
+
+def folders_of(kept: files.AnyPath, service: str) -> list[Path]:
+    """The folders in which stamps of a service's lines may stand, by a file of kept lines, which may be that of a service's own ones."""
+    path = Path(kept)
+    own = [own_folder(path.with_suffix("")) / service] if path.suffix == ".lines" else []
+    return [folder_of(kept, service), *own]
+
+
 def keep_stamp(kept: files.AnyPath, line: Line, data: bytes) -> Placing:
     """Keeps a file of stamps beside a kept line, in the place of the one that it renews; answers what became of it."""
+    return put_stamp(folder_of(kept, line.service), line, data)
+
+
+def put_stamp(folder: Path, line: Line, data: bytes) -> Placing:
+    """Puts a file of stamps of a line into the folder of its service; answers what became of it."""
     pieces = read_pieces(data)
     assert pieces is not None
-    folder = folder_of(kept, line.service)
     path = folder / name_stamp(line, pieces)
     placing = place_stamp(files.read_if_there(path, MOST_BYTES), data)
     if placing is Placing.OTHER:
@@ -268,8 +292,7 @@ class Found(NamedTuple):
 def stamps_of(kept: KeptLines, line: Line) -> list[Found]:
     """The files of stamps that are kept of a line, 64 at most of each file of kept lines."""
     found = []
-    for path in kept.paths:
-        folder = folder_of(path, line.service)
+    for folder in [it for path in kept.paths for it in folders_of(path, line.service)]:
         names = sorted(name for name in os.listdir(folder) if name.startswith(front_of(line))) if folder.is_dir() else []
         found += [Found(folder / name, files.read(folder / name, MOST_BYTES)) for name in names[:MOST_STAMPS]]
     return found

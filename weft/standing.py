@@ -19,7 +19,7 @@ from weft.own import NO_STEP, OwnLines, ToldLines
 from weft.parts import Part
 from weft.statuses import Status
 from weft.stores import Store
-from weft.texts import count_of, date_of, name_of
+from weft.texts import beside, count_of, date_of, name_of, typed
 from weft.trouble import Trouble
 
 CHECKED = ": nothing here shows whether steps were made behind its last one. Compare that with what others hold of it."
@@ -195,7 +195,7 @@ class Standing:
             f"Is that a part of it? Then what stands in {where} is old, or that part was lost: put the right one back; a step made here would begin a second "
             f"history. Is {line.service} another's service? Then note that: echo {line.service} >> {name_of(self.kept.place_of_others)}",
         )
-        return Finding(trouble, [trouble.told()])
+        return Finding(trouble, [trouble.describe()])
 
     def find_other_line(self, unmade: str) -> Optional[Finding]:
         """That a part isn't that of the lines that stand beside it."""
@@ -259,11 +259,16 @@ class Standing:
     def find_no_entries(self, unmade: str) -> Optional[Finding]:
         """That the entries don't stand beside a part that has steps with events."""
         part = self.last
-        if part.entries.is_there or find_missing(part.last, Beside(True, False, self.has_events)) is not Missing.ENTRIES:
+        if part.entries.is_there:
+            return None
+        missing = find_missing(part.last, Beside(True, False, self.has_events, files.is_there(beside(part.folder, ".records"))))
+        if missing is Missing.LOG:
+            return Finding(no_log(part.store, unmade))
+        if missing is not Missing.ENTRIES:
             return None
         told = f"{name_of(part.entries.path)} doesn't stand beside it, by which what was logged is known"
         trouble = own.unnamed(part.store, part.last, told, "it", unmade, f" If it was lost: weft check --entries {name_of(part.store.path)}.")
-        return Finding(trouble, [trouble.told()])
+        return Finding(trouble, [trouble.describe()])
 
     @functools.cached_property
     def has_events(self) -> bool:
@@ -285,6 +290,13 @@ def whose(store: Store) -> str:
         f"One of them is that of {name_of(store.path)}. Append nothing until you know who made the other one: if it went out from here, this store was set back "
         "and gone on with, and there are two histories: put back the one that has it, and tell those who hold lines. If somebody made it up, choose this store's."
     )
+
+
+def no_log(store: Store, unmade: str = NO_STEP) -> Trouble:
+    """That a service is one in which events are recorded, and what to do with it."""
+    where = typed(store.path)
+    advice = f"Log into a service of its own: weft log FOLDER OTHER NAME. What was recorded is found, and proved, by: weft find {where} FILE --proofs PROOFS"
+    return Trouble(Status.USAGE, ending(f"the service in {name_of(store.path)} is one of weft record, and no log of files", unmade), advice)
 
 
 def passing_over(service: Path, row: Row) -> str:

@@ -8,10 +8,12 @@ from typing import Any, Iterable, Iterator
 
 from weft import formats, reports, signatures
 from weft.deciding.bundles import Unfit, read_bundle
+from weft.deciding.letters import is_taken_out
 from weft.events import told_event
 from weft.judges import Verdict
 from weft.lines import Kept, KeptLines, read_kept, read_line, read_mark
 from weft.progress import with_progress
+from weft.sentences import fill
 from weft.texts import count_of, date_of, printable, quoted
 from weft.trouble import Trouble
 
@@ -169,13 +171,18 @@ def tell_report(data: bytes) -> tuple[str, list[str]]:
 
 def tell_lines(data: bytes) -> tuple[str, list[str]]:
     """A file of lines, which are read one after another."""
-    shown: list[str] = []
-    count = 0
+    shown, beside = list[str](), list[str]()
+    count = marks = behind = 0
     for line in io.BytesIO(data):
         text = line[:MOST_FIRST].decode("utf-8", "replace").rstrip("\r\n")
-        if not text.strip() or text.startswith("#"):
+        if not text.strip() or is_taken_out(text):
+            continue
+        if text.startswith("#"):
+            behind += 1
+            beside += [f"words behind #: {quoted(text.lstrip('#').strip())}"] if behind <= MOST_LINES else []
             continue
         if read_mark(text) is not None:
+            marks += 1
             continue
         it = read_kept(text)
         if it is None:
@@ -183,10 +190,12 @@ def tell_lines(data: bytes) -> tuple[str, list[str]]:
         count += 1
         if count <= MOST_LINES:
             shown.append(f"{it.line.text}{kept_words(it)}")
-    if not count:
+    if not count and not marks:
         raise ValueError(NO_FORMAT)
     more = disputes_in(data)
-    return "line" if count == 1 else count_of(count, "line"), [*several(shown, count, "lines", MOST_LINES), *several(more, len(more), "such steps", MOST_LINES)]
+    what = "line" if count == 1 else count_of(count, "line") if count else f"{count_of(marks, 'note')} of lines that contradicted, and no line"
+    words = several(beside, behind, "rows of such words", MOST_LINES)
+    return what, [*several(shown, count, "lines", MOST_LINES), *words, *several(more, len(more), "such steps", MOST_LINES)]
 
 
 def kept_words(it: Kept) -> str:
@@ -209,7 +218,7 @@ def tell_bundle(data: bytes) -> tuple[str, list[str]]:
     """What a bundle has."""
     found = read_bundle(data)
     if isinstance(found, Unfit):
-        raise ValueError(f"It is no bundle of weft: {found.value}")
+        raise ValueError(fill("no bundle", file="It", why=fill(found.value)))
     return "a bundle", [f"{name} ({count_of(len(part), 'byte')})" for name, part in found.items()]
 
 

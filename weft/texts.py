@@ -56,12 +56,12 @@ def printable(text: str) -> str:
 def quoted(text: str) -> str:
     """A foreign text in quotes, in which nothing looks as if the quotes had ended."""
 
-    def shown(found: re.Match[str]) -> str:
+    def show_letter(found: re.Match[str]) -> str:
         letter, before = found[0], text[max(0, found.start() - 1) : found.start()]
         is_second = letter in "‘’" and before != "" and before in AS_APOSTROPHE
         return letter if PLAIN.match(letter) and not is_second else escape(letter)
 
-    return '"' + escaped(IN_QUOTES.sub(shown, text)) + '"'
+    return '"' + escaped(IN_QUOTES.sub(show_letter, text)) + '"'
 
 
 def name_of(path: Union[str, os.PathLike[str]]) -> str:

@@ -21,7 +21,7 @@ class Trouble(Exception):
     def __reduce__(self) -> tuple[type[Trouble], tuple[Status, str, str]]:
         return Trouble, (self.status, self.sentence, self.advice)
 
-    def told(self) -> str:
+    def describe(self) -> str:
         """The sentences in one line."""
         return f"{self.sentence}. {self.advice}".rstrip() if self.advice else f"{self.sentence}."
 

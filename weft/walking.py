@@ -306,6 +306,7 @@ def read_once(file: File, pause: float) -> Optional[Content]:
         before, began = state_of(os.fstat(opened.fileno())), time.time_ns()
         if before.size > MOST_FILE:
             raise Trouble(Status.UNREADABLE, f"it has {before.size:,} bytes, and of more than {MOST_FILE:,} no file is read")
+        files.expect_content(opened.fileno(), os.fsdecode(file.name))
         left = before.size + 1
         while left > 0 and (piece := opened.read(min(left, PIECE))):
             digest.update(piece)

@@ -8,16 +8,16 @@ from __future__ import annotations
 from typing import Sequence
 
 from .anchors import Anchors
-from .answers import ACCEPTED, REJECTED, Answer, told
+from .answers import ACCEPTED, REJECTED, Answer, answer_text
 from .histories import history_to_bytes, read_history, sound_history
 from .proofs import Reason, ThreadProof
 from .timelines import Timeline
-from .verdicts import judged
+from .verdicts import judge_proof
 
 
 def fault_of(number: int, data: bytes, anchors: Anchors, line: Timeline) -> Reason | int:
     """The fault of the proof of this number, from 1; or the step of its thread, which the history has."""
-    proof = judged(data, anchors)
+    proof = judge_proof(data, anchors)
     if isinstance(proof, Reason):
         return Reason(10, "Part", f"{number} {proof.number}")
     if not isinstance(proof, ThreadProof) or proof.entry.service != line.name:
@@ -39,7 +39,7 @@ def adopt(file: str, data: bytes, anchors: Anchors, proofs: Sequence[bytes]) -> 
     for number, proof in enumerate(proofs, 1):
         found = fault_of(number, proof, anchors, line)
         if isinstance(found, Reason):
-            return told(REJECTED, found.line())
+            return answer_text(REJECTED, found.line())
         upto = max(upto, found)
     name, steps = read_history(data)
     return Answer(ACCEPTED, history_to_bytes(name, steps[:upto]))

@@ -39,11 +39,11 @@ class Answer(NamedTuple):
     text: bytes
 
 
-def told(status: int, text: str) -> Answer:
+def answer_text(status: int, text: str) -> Answer:
     """The answer of this text."""
     return Answer(status, text.encode())
 
 
 def unreadable(file: str, unit: str, place: int) -> Answer:
     """A file of this name isn't of its format; the unit of the place is `byte` or `line`."""
-    return told(UNREADABLE, f"unreadable {file} {unit} {place}\n")
+    return answer_text(UNREADABLE, f"unreadable {file} {unit} {place}\n")

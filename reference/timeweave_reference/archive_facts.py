@@ -94,7 +94,7 @@ def _archived(file: ArchiveFile) -> Tuple[Entry | None, Lack | None]:
         return file.entry, None
     if isinstance(file, AbsenceProof):
         return None, Lack(file.absent_service, file.absent_step - 1, file.absent_step, file.step)
-    nearest = file.shown().nearest
+    nearest = file.show_nearest().nearest
     if isinstance(file, LowFile):
         entry = nearest if nearest and nearest.service == file.peer else None
         return entry, Lack(file.peer, file.low(), LAST_STEP, file.step - 1)
@@ -108,7 +108,7 @@ def facts_of(file: ArchiveFile, anchors: Anchors) -> Facts:
     return Facts(service, anchors[service], Anchor(step, opening.authenticator(step)), opening, *_archived(file))
 
 
-def judged(data: bytes, anchors: Anchors) -> Facts | Reason:
+def judge_file(data: bytes, anchors: Anchors) -> Facts | Reason:
     """What the bytes of a file say under these anchors, or the lowest reason against them."""
     file = read_file(data)
     if file is None:

@@ -9,12 +9,12 @@ from __future__ import annotations
 from typing import Dict, Iterator, Sequence, Tuple
 
 from .anchors import Anchors
-from .answers import ACCEPTED, REJECTED, Answer, told, unreadable
+from .answers import ACCEPTED, REJECTED, Answer, answer_text, unreadable
 from .histories import MOST_BYTES, NAME_PLACE, Thread, sound_history
 from .precedence import PrecedenceProof
 from .proofs import Proof, Reason
 from .timelines import Timeline
-from .verdicts import judged
+from .verdicts import judge_proof
 
 Files = Sequence[Tuple[str, bytes]]
 """Files, each its name and its bytes."""
@@ -51,12 +51,12 @@ def audit(data: bytes, anchors: Anchors, files: Files) -> Answer:
     lines = read_histories(files)
     if isinstance(lines, Answer):
         return lines
-    proof = judged(data, anchors)
+    proof = judge_proof(data, anchors)
     if isinstance(proof, Reason):
-        return told(REJECTED, proof.line())
+        return answer_text(REJECTED, proof.line())
     for service, step, auth in held(proof, anchors):
         auths = lines[service].auths if service in lines else []
         found = auths[step] if step < len(auths) else None
         if found != auth:
-            return told(REJECTED, f"unheld {service} {step} {auth.hex()} {found.hex() if found else 'none'}\n")
-    return told(ACCEPTED, "stands\n" + proof.report().partition("\n")[2])
+            return answer_text(REJECTED, f"unheld {service} {step} {auth.hex()} {found.hex() if found else 'none'}\n")
+    return answer_text(ACCEPTED, "stands\n" + proof.report().partition("\n")[2])

@@ -11,7 +11,7 @@ from typing import Callable, Dict, List, Sequence, TypeVar
 
 from . import adoptions, anchors, atlases, audits, events_files, evidence, histories, joining
 from . import map_files, messages, precedence, proofs, receipts, scripts, worlds
-from .answers import ACCEPTED, NO_INPUT, USAGE, Answer, told, unreadable
+from .answers import ACCEPTED, NO_INPUT, USAGE, Answer, answer_text, unreadable
 from .fields import Malformed
 from .verdicts import read_proof, verdict
 from .words import FILES, FOLDER, kinds_of
@@ -109,7 +109,7 @@ def _atlas(files: Files, words: Sequence[str]) -> Answer:
     for name in names:
         left = receipts.MOST_RECEIPTS - len(found)
         found += read_as(partial(receipts.read_receipts, most=left), files, name)
-    return told(ACCEPTED, atlases.atlas_text(map(atlases.hop_of, found), service, int(step)))
+    return answer_text(ACCEPTED, atlases.atlas_text(map(atlases.hop_of, found), service, int(step)))
 
 
 def _checkmap(files: Files, words: Sequence[str]) -> Answer:
@@ -122,7 +122,7 @@ def _replay(files: Files, words: Sequence[str]) -> Answer:
 
 
 def _generate(files: Files, words: Sequence[str]) -> Answer:
-    return told(ACCEPTED, worlds.generated(int(words[1])))
+    return answer_text(ACCEPTED, worlds.generated(int(words[1])))
 
 
 OVER_FILES: Dict[str, Callable[[Files, Sequence[str]], Answer]] = {
@@ -144,10 +144,10 @@ OVER_FILES: Dict[str, Callable[[Files, Sequence[str]], Answer]] = {
 
 def usage(word: int) -> Answer:
     """No form goes on at this word, counted from 1."""
-    return told(USAGE, f"usage {word}\n")
+    return answer_text(USAGE, f"usage {word}\n")
 
 
-NO_FILE = told(NO_INPUT, "fault input\n")
+NO_FILE = answer_text(NO_INPUT, "fault input\n")
 """A file that the words name can't be read."""
 
 

@@ -8,8 +8,8 @@ from __future__ import annotations
 from typing import Sequence, Tuple
 
 from .anchors import Anchor, Anchors, read_anchors
-from .answers import ACCEPTED, REJECTED, Answer, told, unreadable
-from .archive_facts import Facts, judged
+from .answers import ACCEPTED, REJECTED, Answer, answer_text, unreadable
+from .archive_facts import Facts, judge_file
 from .broken_rules import broken_rule
 from .evidence import read_evidence
 from .fields import Malformed
@@ -33,20 +33,20 @@ def _answer(one: Facts, other: Facts, link: bytes) -> Answer:
     """What is answered of two accepted files and the link between their lines."""
     broken = broken_rule(one, other)
     if not broken:
-        return told(REJECTED, Reason(11, "NoConflict").line())
+        return answer_text(REJECTED, Reason(11, "NoConflict").line())
     if link and not joins(link, one.service, one.line, other.line):
-        return told(REJECTED, Reason(12, "BadLink").line())
+        return answer_text(REJECTED, Reason(12, "BadLink").line())
     head = "accepted broken-rule" if link or one.line == other.line else "accepted broken-rule-or-fork"
-    return told(ACCEPTED, "".join(f"{line}\n" for line in (head, *broken.lines())))
+    return answer_text(ACCEPTED, "".join(f"{line}\n" for line in (head, *broken.lines())))
 
 
 def _of_files(files: Sequence[Tuple[bytes, Anchors]], link: bytes) -> Answer:
     """What is answered of two files, each under its anchors, and of the link between their lines."""
     said = []
     for number, (data, anchors) in enumerate(files, 1):
-        found = judged(data, anchors)
+        found = judge_file(data, anchors)
         if isinstance(found, Reason):
-            return told(REJECTED, Reason(10, "Part", f"{number} {found.number}").line())
+            return answer_text(REJECTED, Reason(10, "Part", f"{number} {found.number}").line())
         said.append(found)
     one, other = said
     return _answer(one, other, link)
@@ -73,5 +73,5 @@ def receiver(evidence: bytes, anchors: bytes, link: bytes = b"") -> Answer:
     try:
         shown = read_evidence(evidence)
     except Malformed as bad:
-        return told(REJECTED, Reason(1, "Malformed", str(bad.place)).line())
+        return answer_text(REJECTED, Reason(1, "Malformed", str(bad.place)).line())
     return _of_files([(shown.first.to_bytes(), held), (shown.second.to_bytes(), held)], link)

@@ -13,7 +13,7 @@ from contextlib import ExitStack, contextmanager
 from pathlib import Path
 from typing import Dict, Iterator, Sequence
 
-from .answers import ACCEPTED, BAD_STORE, Answer, told
+from .answers import ACCEPTED, BAD_STORE, Answer, answer_text
 from .commands import Files
 from .folders import NO_FOLDER, OF_FOLLOWERS, Folders, Store
 from .reopening import BadPage, read_stored
@@ -109,9 +109,9 @@ def answer(words: Sequence[str], files: Files) -> Answer:
             renew_if_other(Path(words[1]) / STORE, after.file())
         return found
     except NoStore as bad:
-        return told(BAD_STORE, f"store NotAStore {bad.slot}\n")
+        return answer_text(BAD_STORE, f"store NotAStore {bad.slot}\n")
     except BadPage as bad:
-        return told(BAD_STORE, f"store BadPage {bad.number}\n")
+        return answer_text(BAD_STORE, f"store BadPage {bad.number}\n")
     except OSError:
         return NO_FOLDER
     finally:

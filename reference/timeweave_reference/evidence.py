@@ -8,7 +8,7 @@ from __future__ import annotations
 from dataclasses import dataclass
 
 from .anchors import Anchors
-from .answers import ACCEPTED, REJECTED, Answer, told
+from .answers import ACCEPTED, REJECTED, Answer, answer_text
 from .archives import Entry
 from .fields import Malformed, Reader
 from .paths import Path, climbed, path_to_bytes, read_path
@@ -80,11 +80,11 @@ def check_fork(data: bytes, anchors: Anchors) -> Answer:
     try:
         evidence = read_evidence(data)
     except Malformed as bad:
-        return told(REJECTED, Reason(1, "Malformed", str(bad.place)).line())
+        return answer_text(REJECTED, Reason(1, "Malformed", str(bad.place)).line())
     reason = evidence.reason(anchors)
     if reason:
-        return told(REJECTED, reason.line())
-    return told(ACCEPTED, "accepted fork\n" + _line("first", evidence.first) + _line("second", evidence.second))
+        return answer_text(REJECTED, reason.line())
+    return answer_text(ACCEPTED, "accepted fork\n" + _line("first", evidence.first) + _line("second", evidence.second))
 
 
 def accused(first: ThreadProof, second: ThreadProof, link: LinkProof | None = None) -> Evidence | int:
@@ -102,4 +102,4 @@ def accused(first: ThreadProof, second: ThreadProof, link: LinkProof | None = No
 def accuse(first: ThreadProof, second: ThreadProof, link: LinkProof | None = None) -> Answer:
     """What is answered of these parts: the bytes of the evidence, or the number of the part that doesn't fit."""
     made = accused(first, second, link)
-    return told(REJECTED, f"rejected Gap {made}\n") if isinstance(made, int) else Answer(ACCEPTED, made.to_bytes())
+    return answer_text(REJECTED, f"rejected Gap {made}\n") if isinstance(made, int) else Answer(ACCEPTED, made.to_bytes())

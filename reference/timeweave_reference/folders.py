@@ -9,7 +9,7 @@ from __future__ import annotations
 from typing import Callable, Dict, List, Mapping, Sequence, Union
 
 from . import commands, histories
-from .answers import ACCEPTED, BAD_STORE, NO_DISK, Answer, told
+from .answers import ACCEPTED, BAD_STORE, NO_DISK, Answer, answer_text
 from .commands import BadFile, Files, read_as
 from .events_files import read_events
 from .followers import Follower
@@ -20,10 +20,10 @@ from .words import FOLDER, kinds_of
 Store = Union[Service, Follower, None]
 """Whose store a folder has."""
 
-NO_FOLDER = told(NO_DISK, "fault disk\n")
+NO_FOLDER = answer_text(NO_DISK, "fault disk\n")
 """There is no such folder."""
 
-BLANK = told(BAD_STORE, "store Blank\n")
+BLANK = answer_text(BAD_STORE, "store Blank\n")
 """There is no store in the folder."""
 
 OF_FOLLOWERS = ("offer", "heads")
@@ -68,7 +68,7 @@ class Folders:
         if store is None:
             return BLANK
         if isinstance(store, Follower) != (command in OF_FOLLOWERS):
-            return told(BAD_STORE, f"store NotAStore {store.slot()}\n")
+            return answer_text(BAD_STORE, f"store NotAStore {store.slot()}\n")
         if isinstance(store, Follower):
             return Answer(ACCEPTED, store.lines() if command == "heads" else store.offer(files[words[0]]))
         return Answer(ACCEPTED, self._of_service(command, store, words, files))

@@ -8,7 +8,7 @@ from __future__ import annotations
 from dataclasses import dataclass, field
 from typing import Dict, Iterator, List, NamedTuple, Sequence, Tuple
 
-from .answers import ACCEPTED, REFUSED, UNREADABLE, Answer, told, unreadable
+from .answers import ACCEPTED, REFUSED, UNREADABLE, Answer, answer_text, unreadable
 from .archives import EMPTY, Entry, Key, Node, Tree
 from .event_trees import event_part
 from .events_files import sized
@@ -215,7 +215,7 @@ def sound_history(file: str, data: bytes) -> Timeline | Answer:
     except Malformed as bad:
         return unreadable(file, "byte", bad.place)
     except Unsound as broken:
-        return told(UNREADABLE, f"unsound {file} step {broken.step} rule {broken.rule}\n")
+        return answer_text(UNREADABLE, f"unsound {file} step {broken.step} rule {broken.rule}\n")
 
 
 def existence_proof(line: Timeline, step: int, index: int, top: int) -> ExistenceProof:
@@ -230,7 +230,7 @@ def show(file: str, data: bytes, step: int, index: int) -> Answer:
         return line
     last = len(line.steps)
     if not 1 <= step <= last:
-        return told(REFUSED, f"refused NoStep {last}\n")
+        return answer_text(REFUSED, f"refused NoStep {last}\n")
     if index >= len(line.events(step)):
-        return told(REFUSED, f"refused NoEvent {len(line.events(step))}\n")
+        return answer_text(REFUSED, f"refused NoEvent {len(line.events(step))}\n")
     return Answer(ACCEPTED, existence_proof(line, step, index, last).to_bytes())

@@ -7,7 +7,7 @@ from __future__ import annotations
 
 from typing import Dict, List, Sequence
 
-from .answers import ACCEPTED, REJECTED, Answer, told
+from .answers import ACCEPTED, REJECTED, Answer, answer_text
 from .precedence import MOST_HOPS, Hop, PrecedenceProof
 from .proofs import ExistenceProof, LinkProof, Proof, ThreadProof
 
@@ -55,4 +55,4 @@ def _composed(second: ExistenceProof, threads: List[ThreadProof], links: Dict[in
 def join(parts: Sequence[Proof]) -> Answer:
     """What is answered of parts: the bytes of the proof, or the number of the part that doesn't fit."""
     made = joined(parts)
-    return told(REJECTED, f"rejected Gap {made}\n") if isinstance(made, int) else Answer(ACCEPTED, made.to_bytes())
+    return answer_text(REJECTED, f"rejected Gap {made}\n") if isinstance(made, int) else Answer(ACCEPTED, made.to_bytes())

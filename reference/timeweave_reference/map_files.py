@@ -9,7 +9,7 @@ from dataclasses import dataclass
 from typing import Iterator
 
 from .anchors import Anchors
-from .answers import ACCEPTED, REJECTED, Answer, told
+from .answers import ACCEPTED, REJECTED, Answer, answer_text
 from .archives import WRONG, Ask, Question, Shown, Tree, TreeProof, read_tree_proof, tree_proof
 from .fields import LAST_STEP, Reader, big_endian, padded
 from .openings import Opening, read_opening
@@ -60,13 +60,13 @@ class LowFile:
         before = self.before
         return front + path_to_bytes(before.path) + before.opening.to_bytes() + before.tree.to_bytes() if before else front
 
-    def shown(self) -> Shown:
+    def show_nearest(self) -> Shown:
         """What its tree proof shows; of step 1 that there is no thread."""
         return self.before.tree.shows(self.before.opening.archive_label, low_ask(self.peer)) if self.before else Shown("Nearest")
 
     def low(self) -> int:
         """The greatest step of the peer that was received before the step, or 0."""
-        nearest = self.shown().nearest
+        nearest = self.show_nearest().nearest
         return nearest.step if nearest and nearest.service == self.peer else 0
 
     def reasons(self, anchors: Anchors) -> Iterator[Reason]:
@@ -79,7 +79,7 @@ class LowFile:
             return
         bottom = self.before.opening.authenticator(self.step - 1)
         yield from unbound(anchors, self.service, self.top, self.step - 1, self.before.path, bottom, 0)
-        if self.shown() == WRONG:
+        if self.show_nearest() == WRONG:
             yield bad_tree(0)
 
 
@@ -99,19 +99,19 @@ class HighFile:
         front = b"TWP1" + big_endian(HIGH, 1) + padded(self.peer) + big_endian(self.top, 8) + padded(self.service) + big_endian(self.step, 8)
         return front + self.opening.to_bytes() + self.tree.to_bytes()
 
-    def shown(self) -> Shown:
+    def show_nearest(self) -> Shown:
         """What its tree proof shows."""
         return self.tree.shows(self.opening.archive_label, high_ask(self.service, self.step))
 
     def high(self) -> int | None:
         """The step of the peer that received it, or None."""
-        nearest = self.shown().nearest
+        nearest = self.show_nearest().nearest
         return nearest.archived if nearest and nearest.service == self.service else None
 
     def reasons(self, anchors: Anchors) -> Iterator[Reason]:
         """What stands against it."""
         yield from unbound(anchors, self.peer, self.top, self.top, (), self.opening.authenticator(self.top), 1)
-        if self.shown() == WRONG:
+        if self.show_nearest() == WRONG:
             yield bad_tree(1)
 
 
@@ -144,12 +144,12 @@ def read_high(data: bytes) -> HighFile:
 def check_map(low: LowFile, high: HighFile, anchors: Anchors) -> Answer:
     """What is answered of two map files under anchors."""
     if (low.service, low.step, low.peer) != (high.service, high.step, high.peer):
-        return told(REJECTED, "rejected Gap 2\n")
+        return answer_text(REJECTED, "rejected Gap 2\n")
     found = lowest([*low.reasons(anchors), *high.reasons(anchors)])
     if found:
-        return told(REJECTED, found.line())
+        return answer_text(REJECTED, found.line())
     bound = high.high()
-    return told(ACCEPTED, f"accepted map\nlow {low.low()}\nhigh {'none' if bound is None else bound}\nupto {high.top}\n")
+    return answer_text(ACCEPTED, f"accepted map\nlow {low.low()}\nhigh {'none' if bound is None else bound}\nupto {high.top}\n")
 
 
 # ---- making

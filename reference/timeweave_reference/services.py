@@ -10,7 +10,7 @@ from __future__ import annotations
 from copy import copy
 from typing import Dict, List, Sequence
 
-from .answers import REFUSED, Answer, told
+from .answers import REFUSED, Answer, answer_text
 from .archives import Entry, Key, Tree, absent, present, tree_proof
 from .event_trees import event_root
 from .events_files import sized
@@ -32,7 +32,7 @@ class Refused(Exception):
 
     def answer(self) -> Answer:
         """What is told."""
-        return told(REFUSED, f"refused {self}\n")
+        return answer_text(REFUSED, f"refused {self}\n")
 
 
 def refuse_unless(holds: bool, words: str) -> None:

@@ -6,7 +6,7 @@ docs/formats.md, "Proof that one event precedes another": what is checked, and w
 from __future__ import annotations
 
 from .anchors import Anchors
-from .answers import ACCEPTED, REJECTED, Answer, told
+from .answers import ACCEPTED, REJECTED, Answer, answer_text
 from .fields import Malformed
 from .precedence import read_precedence
 from .proofs import ABSENT, EXISTS, LINK, PRECEDES, THREAD, Proof, Reason, lowest, read_proof_of
@@ -28,7 +28,7 @@ def refusal(proof: Proof, anchors: Anchors, is_strict: bool = False) -> Reason |
     return found
 
 
-def judged(data: bytes, anchors: Anchors, is_strict: bool = False) -> Proof | Reason:
+def judge_proof(data: bytes, anchors: Anchors, is_strict: bool = False) -> Proof | Reason:
     """The accepted proof that the bytes are, or the reason that is told of them."""
     try:
         proof = read_proof(data)
@@ -39,5 +39,5 @@ def judged(data: bytes, anchors: Anchors, is_strict: bool = False) -> Proof | Re
 
 def verdict(data: bytes, anchors: Anchors, is_strict: bool = False) -> Answer:
     """What is answered of the bytes of a proof under anchors: `accepted` and the report, or `rejected` and the reason."""
-    found = judged(data, anchors, is_strict)
-    return told(REJECTED, found.line()) if isinstance(found, Reason) else told(ACCEPTED, found.report())
+    found = judge_proof(data, anchors, is_strict)
+    return answer_text(REJECTED, found.line()) if isinstance(found, Reason) else answer_text(ACCEPTED, found.report())

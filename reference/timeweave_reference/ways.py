@@ -39,7 +39,7 @@ class Way:
         """The service and the step whose archive shows a hop, counted from 0."""
         return self.ends()[number]
 
-    def shown(self, number: int) -> TreeProof:
+    def prove_hop(self, number: int) -> TreeProof:
         """The tree proof of a hop, counted from 0."""
         service, step = self.archive_of(number)
         proof = tree_proof(self.family[service].trees[step], present(self.hops[number][0]))
@@ -56,7 +56,7 @@ class Way:
         for number, (entry, bind) in enumerate(self.hops):
             own = self.lines[entry.service]
             opening = own.opening(entry.step) if number + 1 < len(self.hops) else None
-            hops.append(Hop(entry, self.shown(number), bind, own.path(bind, entry.step) if bind else (), opening))
+            hops.append(Hop(entry, self.prove_hop(number), bind, own.path(bind, entry.step) if bind else (), opening))
         (last, upper), (first_step, first_index) = self.ends()[-1], self.first
         own = self.lines[last]
         tail = own.path(upper, first_step), own.opening(first_step), event_part(own.events(first_step), first_index)

@@ -11,13 +11,13 @@ import json
 from typing import Callable, Dict, List, NamedTuple, Sequence
 
 from .anchors import Anchor
-from .answers import ACCEPTED, Answer, told, unreadable
+from .answers import ACCEPTED, Answer, answer_text, unreadable
 from .fields import Malformed
 from .joining import joined
 from .proofs import Reason
 from .scripts import decoded, read_script
 from .services import Refused, Service
-from .verdicts import judged, read_proof
+from .verdicts import judge_proof, read_proof
 
 OLD, NEW, ZEROS, ONES = range(4)
 """What a crash leaves of a page that was written since the last good barrier: its old bytes, the new ones, zeros, or bytes of the value 1."""
@@ -183,7 +183,7 @@ class World:
         file = self.files[int(words[0]) - 1]
         if file is None:
             return "none"
-        found = judged(file, self.anchors)
+        found = judge_proof(file, self.anchors)
         return f"rejected {found.number}" if isinstance(found, Reason) else "accepted"
 
     def steps(self) -> Dict[str, int]:
@@ -215,7 +215,7 @@ def played(data: bytes) -> str:
 def replay(file: str, data: bytes) -> Answer:
     """What is answered of the script of a file of this name."""
     try:
-        return told(ACCEPTED, played(data))
+        return answer_text(ACCEPTED, played(data))
     except Malformed as bad:
         return unreadable(file, "line", bad.place)
 

@@ -25,6 +25,9 @@ from weft.deciding.signatures import PublicKey, read_public_key
 MARK, LIST, HEAD = "weft-backup", "list", "weft backup 1"
 SERVICE, BOX, OWN, KEYS = "service", "box", "own", "keys"
 KEPT, SIGNERS = f"{OWN}/kept", f"{OWN}/signers"
+# Beside the kept lines: which names are another service's, which services were made, and the stamps of lines, in a folder for each service.
+OTHERS, MADE, STAMPS = f"{KEPT}.others", f"{KEPT}.made", f"{KEPT}.stamps"
+STAMP = re.compile(rf"{re.escape(STAMPS)}/([a-z0-9-]{{1,16}})/([0-9]{{1,13}})-([0-9a-f]{{64}})-[0-9a-f-]{{1,200}}\.stamp")
 KEY, PUBLIC = f"{KEYS}/key", f"{KEYS}/key.pub"
 # What stands beside a service's folder and is a part of it. (Locks, and what is known of files since they were read, aren't.)
 BESIDE = (".lines", ".anchor", ".seal", ".entries", ".records", ".pending", ".next", ".others", ".look")
@@ -135,6 +138,27 @@ def is_backed_up(name: str) -> bool:
     return not came and not any(part.endswith(LEFT_OUT) for part in parts[1:])
 
 
+def mode_put_back(item: Item) -> int:
+    """What comes back is for its user alone, whatever mode the backup says, but what a carrier needs: he may read the line to hand out and what lies in `out`, pass through the
+    box's folders, and write what comes into `in`. Nothing else of it may be written by others."""
+    parts = item.name.split("/")
+    if parts[0] == BOX and parts[2:] == ["in"]:
+        return item.mode
+    is_carried = item.name == f"{SERVICE}.anchor" or (parts[0] == BOX and ("out" in parts[2:3] or (len(parts) < 3 and not item.digest)))
+    return item.mode & (0o755 if is_carried else 0o700)
+
+
+def list_narrowed(items: Sequence[Item]) -> list[str]:
+    """The files and folders of a backup that others could read or write more than they can once it is put back."""
+    return [item.name for item in items if mode_put_back(item) != item.mode]
+
+
+def list_written(named: Sequence[tuple[str, str]], box: str) -> list[str]:
+    """Of the places that a backup's box.conf names, each with its setting and with all links followed, a turn writes into those that aren't within the box: by which word, since
+    whoever made the backup named it."""
+    return [setting for setting, place in named if place != box and not place.startswith(f"{box}/")]
+
+
 class Faulty(NamedTuple):
     """A file or folder that isn't as a backup's list says, and how it differs, as a sentence's end."""
 
@@ -193,6 +217,12 @@ def weigh_target(target: Target, digest: str) -> Begin:
     return Begin.END if target.has_service else Begin.OTHER
 
 
+def read_stamp_name(name: str) -> Optional[Line]:
+    """A stamp of a backup has the name of a kept one, which tells the line that it stamps; what else lies there is none."""
+    found = STAMP.fullmatch(name)
+    return read_line(f"{found[1]} {found[2]} {found[3]}") if found is not None else None
+
+
 class Present(Enum):
     """What a file of the user's own is to that of a backup: there is none, so it is put there; it has all of it; or it lacks some of it."""
 
@@ -223,6 +253,11 @@ def list_lost(before: Sequence[Recorded], names: Collection[str]) -> list[str]:
     """A backup that comes in the place of another one lacks what that had of the peers that aren't among these names, of all parts of those in its box: that was left out,
     or is another one."""
     return sorted({it.peer for it in before}.difference(names))
+
+
+def list_lost_own(before: Sequence[Item], now: Sequence[Item]) -> list[str]:
+    """A backup that comes in the place of another one lacks each file of the user's own that was in that one, by its name there, and isn't in this one."""
+    return sorted({it.name for it in before if it.digest and it.name.startswith(f"{OWN}/")} - {it.name for it in now})
 
 
 class Noted(NamedTuple):

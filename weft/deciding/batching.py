@@ -8,7 +8,7 @@ from enum import Enum
 from typing import Collection, Iterable, Iterator, NamedTuple, Optional, Sequence, Union
 
 MOST_EVENT = 1_024
-MOST_TOGETHER = 1_024
+MOST_TOGETHER = 512
 OWN_WORDS = (b"goes on as ", b"new key ")
 """What begins so says something of the service itself: how it goes on, and which key signs for it. Whoever hands over events isn't to say that."""
 KEY = re.compile(rb"[!-~]{1,64}")
@@ -66,6 +66,56 @@ def handed_before(event: bytes) -> Handed:
     return handed_by_digest(told[1]) if told is not None else handed_over(event)
 
 
+def frame(events: Sequence[bytes]) -> bytes:
+    """Each event behind its length in four bytes."""
+    return b"".join([part for event in events for part in (len(event).to_bytes(4, "big"), event)])
+
+
+def is_framed(count: int, body: bytes) -> bool:
+    """Whether a body has so many events and nothing else, each behind its length in four bytes, and none longer than an event. (Where all are of one length, that is seen
+    of all at once.)"""
+    width = width_of(body)
+    if width is not None and len(body) == count * width:
+        return width <= 4 + MOST_EVENT
+    at = 0
+    for _ in range(count):
+        size = int.from_bytes(body[at : at + 4], "big")
+        if size > MOST_EVENT:
+            return False
+        at += 4 + size
+    return at == len(body)
+
+
+def width_of(body: bytes) -> Optional[int]:
+    """How many bytes each event of a body takes with its length, where that is the same of all and they are framed; else None."""
+    width = 4 + int.from_bytes(body[:4], "big")
+    count, rest = divmod(len(body), width)
+    is_same = not rest and all(body[place::width] == body[place : place + 1] * count for place in range(4))
+    return width if is_same else None
+
+
+def split_framed(body: bytes) -> list[bytes]:
+    """The events of a body that is framed."""
+    width = width_of(body)
+    if width is not None:
+        return [body[at : at + width - 4] for at in range(4, len(body) + 1, width)]
+    found, at = [], 0
+    while at < len(body):
+        ends = at + 4 + int.from_bytes(body[at : at + 4], "big")
+        found.append(body[at + 4 : ends])
+        at = ends
+    return found
+
+
+def may_go_as_framed(body: bytes) -> bool:
+    """Whether events go into a step as they are framed: none of them may say something of the service itself. (Where none begins with the first letter of such words, or
+    it stands nowhere in events of several lengths, that is seen at once.)"""
+    width = width_of(body)
+    if not any(word[:1] in body[4::width] for word in OWN_WORDS):
+        return True
+    return not any(event.startswith(OWN_WORDS) for event in split_framed(body))
+
+
 def is_by_digest(it: Handed) -> bool:
     """Whether the event tells the digest alone."""
     told = BY_DIGEST.fullmatch(it.event)
@@ -95,7 +145,8 @@ def count_of_step(sizes: Iterable[int], most_events: int, most_bytes: int) -> in
 
 def patience_for(last: int, waiting: int, seconds: float, vain: int = 0) -> float:
     """Where fewer events wait than were under way last time, those who were answered are about to hand over the next ones: they are waited for, as long as the last ones
-    took at most, unless a whole step waits. Where that was in vain, it is tried each eighth time."""
+    took at most, unless half of the events wait that a step takes: then one half is being made while the other is handed over. Where that was in vain, it is tried each
+    eighth time."""
     return seconds if waiting < min(last, MOST_TOGETHER) and vain % 8 == 0 else 0.0
 
 
@@ -190,5 +241,12 @@ def write_records(step: int, events: Sequence[Union[Handed, Recorded]]) -> bytes
     )
 
 
+def write_plain_records(step: int, events: Sequence[bytes]) -> bytes:
+    """The lines of a step of events without keys, which are recorded as they are."""
+    digests = tuple([hashlib.sha256(event).hexdigest() for event in events])
+    return ("".join(PLAIN_LINES[: len(events)]).replace("STEP", str(step)) % digests).encode()
+
+
+PLAIN_LINES = [f"STEP {index} %s\n" for index in range(1_024)]
 RECORD = re.compile(rb"([0-9]{1,13}) ([0-9]{1,4}) ([0-9a-f]{64})(?: ([!-~]{1,64}))?")
 MADE = re.compile(rb"([0-9]{1,13}) made ([0-9a-f]{64})")

@@ -14,8 +14,11 @@ from typing import Mapping, NamedTuple, Optional, Sequence, Union
 from weft.deciding.lines import Line
 
 MOST_BYTES, MOST_NUMBER = 1 << 26, 64
-PROOF, LINES, KEYS, README, RECORD, RECORD_NAME = "proof", "lines", "keys", "README.txt", "record", "record.name"
-NAME = re.compile(r"README\.txt|proof|lines|keys|record|record\.name|(?:signed|stamped|stamp)-(?:[1-9]|[1-5][0-9]|6[0-4])|signed-(?:[1-9]|[1-5][0-9]|6[0-4])\.sig")
+PROOF, HIGH, LINES, HELD, KEYS, README = "proof", "proof-2", "lines", "held", "keys", "README.txt"
+RECORDS, NAMED = ("record", "record-2"), ".name"
+NAME = re.compile(
+    r"README\.txt|proof(?:-2)?|lines|held|keys|record(?:-2)?(?:\.name)?|(?:signed|stamped|stamp)-(?:[1-9]|[1-5][0-9]|6[0-4])|signed-(?:[1-9]|[1-5][0-9]|6[0-4])\.sig"
+)
 NEEDED = (README, PROOF, LINES)
 LOCAL, CENTRAL, END = struct.Struct("<4s5H3I2H"), struct.Struct("<4s6H3I5H2I"), struct.Struct("<4s4H2IH")
 LOCAL_SIGN, CENTRAL_SIGN, END_SIGN = b"PK\x03\x04", b"PK\x01\x02", b"PK\x05\x06"
@@ -23,16 +26,16 @@ VERSION, MADE_BY, DAY, MODE = 10, 3 << 8 | 10, 0x21, 0o100644 << 16
 
 
 class Unfit(Enum):
-    """Why bytes are no bundle."""
+    """Why bytes are no bundle, by the sentence that tells it."""
 
-    LONG = "it is longer than a bundle may be"
-    END = "its end isn't that of a zip file, or something stands behind it, as a comment"
-    PLACE = "its directory doesn't stand behind its files, or something stands before or between them"
-    NAME = "it has a name that no bundle has, as a path"
-    TWICE = "it has a name twice"
-    PACKED = "a file in it is packed, locked, a link, or not as weft bundle writes it"
-    CHANGED = "a file in it was changed or cut"
-    LACKS = "it lacks a proof, lines or the text for its reader"
+    LONG = "unfit long"
+    END = "unfit end"
+    PLACE = "unfit place"
+    NAME = "unfit name"
+    TWICE = "unfit twice"
+    PACKED = "unfit packed"
+    CHANGED = "unfit changed"
+    LACKS = "unfit lacks"
 
 
 class Entry(NamedTuple):
@@ -65,13 +68,15 @@ def write_bundle(found: Mapping[str, bytes]) -> bytes:
 
 
 def read_bundle(data: bytes) -> Union[dict[str, bytes], Unfit]:
-    """The files of a bundle; of other bytes the answer is why they are none. Nothing is taken of what isn't spelled as it has to be."""
+    """The files of a bundle; of other bytes the answer is why they are none. Nothing is taken of what isn't spelled as it has to be; each file begins where the one before
+    it ends, so that no bytes are taken twice."""
     if len(data) > MOST_BYTES:
         return Unfit.LONG
     entries = read_directory(data)
     if isinstance(entries, Unfit):
         return entries
     found: dict[str, bytes] = {}
+    place = 0
     for it in entries:
         begin = it.at + LOCAL.size + len(it.name)
         if NAME.fullmatch(it.name) is None:
@@ -80,7 +85,10 @@ def read_bundle(data: bytes) -> Union[dict[str, bytes], Unfit]:
             return Unfit.TWICE
         if not it.is_plain:
             return Unfit.PACKED
-        found[it.name] = data[begin : begin + it.size]
+        if it.at != place:
+            return Unfit.PLACE
+        place = begin + it.size
+        found[it.name] = data[begin:place]
         if binascii.crc32(found[it.name]) != it.check:
             return Unfit.CHANGED
     if any(name not in found for name in NEEDED):
@@ -99,7 +107,7 @@ def read_directory(data: bytes) -> Union[list[Entry], Unfit]:
     at = place
     while at < len(data) - END.size:
         fields = CENTRAL.unpack(data[at : at + CENTRAL.size].ljust(CENTRAL.size, b"\0"))
-        if fields[0] != CENTRAL_SIGN:
+        if fields[0] != CENTRAL_SIGN or len(entries) == count:
             return Unfit.PLACE
         end = at + CENTRAL.size + fields[10] + fields[11] + fields[12]
         name = data[at + CENTRAL.size : at + CENTRAL.size + fields[10]]
@@ -163,10 +171,25 @@ def numbered(found: Mapping[str, bytes], front: str, end: str = "") -> list[Pair
     return pairs
 
 
-def record_name(found: Mapping[str, bytes]) -> Optional[str]:
-    """The name under which a bundle has its record: one that isn't a path, of 1 to 255 bytes; else `record`; None where it has none."""
-    if RECORD not in found:
-        return None
-    name = found.get(RECORD_NAME, b"").decode("utf-8", "replace").removesuffix("\n")
+class Record(NamedTuple):
+    """A record of a bundle: its name, and its bytes."""
+
+    name: str
+    data: bytes
+
+
+def list_records(found: Mapping[str, bytes]) -> list[Record]:
+    """The records of a bundle, at most two, since a proof of order has two events; each with its name: one that isn't a path, of 1 to 255 bytes, else that in the bundle."""
+    return [Record(name_record(found, name), found[name]) for name in RECORDS if name in found]
+
+
+def name_record(found: Mapping[str, bytes], place: str) -> str:
+    """The name of a record, as the file beside it tells it."""
+    name = found.get(f"{place}{NAMED}", b"").decode("utf-8", "replace").removesuffix("\n")
     is_fit = 0 < len(name.encode()) <= 255 and "/" not in name and "\0" not in name and name not in (".", "..")
-    return name if is_fit else RECORD
+    return name if is_fit else place
+
+
+def are_judged_together(kinds: Sequence[str]) -> bool:
+    """A bundle has one proof, or a low map file and behind it a high one."""
+    return len(kinds) == 1 or list(kinds) == ["low map", "high map"]

@@ -96,6 +96,21 @@ def read_told(text: str) -> Optional[Told]:
     )  # fmt: skip
 
 
+# In front of the services by whose word a chain or evidence tells what it does.
+BY = "by "
+
+
+def write_by(services: Iterable[str]) -> str:
+    """The services by whose word a file tells what others recorded, as one text; nothing of none."""
+    named = ",".join(sorted({*services}))
+    return f"{BY}{named}" if named else ""
+
+
+def read_by(text: str) -> set[str]:
+    """The services of such a text; none of another one."""
+    return {*text.removeprefix(BY).split(",")} if text.startswith(BY) else set()
+
+
 def may_count(line: Line, of: Optional[str], broken: Collection[str]) -> bool:
     """What a service that broke a rule received, it may have made up: so a file of it, as `of` names the service of one on what a service received, and of a history, shows no
     other service's line. Its own lines count."""

@@ -11,6 +11,7 @@ from enum import Enum
 from typing import Collection, NamedTuple, Optional, Sequence
 
 GONE = b"gone"
+HOLLOW = 1 << 30
 TICK = 20_000_000
 LEFT_OVER = re.compile(r"\.(.+)\.[0-9a-f]{16}\.new", re.DOTALL)
 MOST_FRONT = 60
@@ -106,3 +107,18 @@ def was_still(before: Optional[State], behind: Optional[State], began: int) -> b
     """What was read is what the file was where nothing of it changed between the looks before and behind, and its last change wasn't
     within 20 milliseconds of the moment when reading began: a second change within the system's tick leaves the same time."""
     return before is not None and before == behind and not 0 <= began - before.changed < TICK
+
+
+def may_be_hollow(size: int) -> bool:
+    """Of a file of more than 1 GiB it is asked how much of it has content, before it is read."""
+    return size > HOLLOW
+
+
+def least_content(size: int) -> int:
+    """Of a file that is read so many bytes have content, a thousandth of all."""
+    return size // 1_000
+
+
+def is_hollow(size: int, content: int) -> bool:
+    """A file of more than 1 GiB of which less than a thousandth has content isn't read: to read nothing takes as long as whoever made the file likes."""
+    return may_be_hollow(size) and content < least_content(size)

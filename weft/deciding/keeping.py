@@ -14,7 +14,7 @@ import re
 from enum import Enum
 from typing import Collection, NamedTuple, Optional, Sequence, Union
 
-from weft.deciding.lines import LAST_STEP, Kept, Line
+from weft.deciding.lines import LAST_STEP, Kept, Line, read_line
 from weft.deciding.signatures import may_rest_on
 
 MARK = re.compile(r"(contradiction|chosen): ([a-z0-9-]{1,16}) (0|[1-9][0-9]{0,12})((?: [0-9a-fA-F]{64}){2,})(?: (\S+)(?: (.*))?)?")
@@ -165,3 +165,20 @@ def choose_line(line: Line, kept: Sequence[Kept], marks: Sequence[Mark], date: s
     if not others or (before.choice is not None and before.choice.chosen == line):
         return None
     return Mark(True, line.service, line.step, (line.authenticator, *others), date, why)
+
+
+def may_come_beside(named: Optional[bytes]) -> bool:
+    """What comes beside a file that was named, under a name that nobody typed, is written over only where the named file is what was handed out before, a line alone or in a
+    letter; else that may be somebody's own, as his signature of another document."""
+    return named is not None and (named.startswith(b"# The line of step ") or read_line(named.decode("ascii", "replace").removesuffix("\n")) is not None)
+
+
+def is_of_system(folder: str) -> bool:
+    """Links in these folders are the system's, of all users, and stay: `/dev/stdout` leads to what a run writes to. Of memory that is a folder, as any other."""
+    return f"{folder}/".startswith(("/dev/", "/proc/", "/sys/")) and not f"{folder}/".startswith("/dev/shm/")
+
+
+def is_anothers(owner: int, own: Collection[int]) -> bool:
+    """A lock, or what stands beside a service that is being made, is another's where he is neither this user nor the system's, nor the one whose folder it is: he could hold
+    the one, and read and change the other."""
+    return owner != 0 and owner not in own

@@ -1,13 +1,17 @@
-"""Which steps of a history are listed."""
+"""Which steps of a history are listed, and what of a list is called together."""
 
 from __future__ import annotations
 
 import re
-from typing import Iterable, NamedTuple, Optional
+from typing import Iterable, NamedTuple, Optional, Sequence
 
 from weft.deciding.lines import LAST_STEP
 
 RANGE = re.compile(r"([1-9][0-9]{0,12})(-([1-9][0-9]{0,12})?)?")
+
+
+# Of one content so many names are told each.
+MOST_NAMES = 8
 
 
 class Range(NamedTuple):
@@ -36,3 +40,10 @@ def is_listed(step: int, ranges: Iterable[Range]) -> bool:
 def find_empty(ranges: Iterable[Range], last: int) -> Optional[Range]:
     """The first range that has none of the steps up to the last one, which is told: nobody takes it for one in which nothing was recorded."""
     return next((it for it in ranges if it.first > last), None)
+
+
+def join_names(names: Sequence[str]) -> str:
+    """What has one content is told by its first name, with each other one that it has behind it, or how many more there are: none of them is passed over."""
+    first, *others = dict.fromkeys(names)
+    more = [f"{len(others) - MOST_NAMES:,} more"] if len(others) > MOST_NAMES else []
+    return f"{first} (the same content: {', '.join([*others[:MOST_NAMES], *more])})" if others else first

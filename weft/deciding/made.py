@@ -3,10 +3,13 @@
 from __future__ import annotations
 
 import re
+from enum import Enum
 from typing import Collection, NamedTuple
 
 PLAIN, PERCENT = (0x20, 0x7F), 0x25
 ROW = re.compile(r"([a-z0-9-]{1,16}) (\S+)")
+# The row of what a person took out stays, with its day: what an older backup has of it doesn't come back.
+NEVER_SENT = re.compile(r"never-sent ([a-z0-9-]{1,16}) (\S+) (\S+)")
 
 
 class Made(NamedTuple):
@@ -29,6 +32,53 @@ def made_in(name: str, folder: bytes) -> Made:
 def read_made(text: str) -> set[Made]:
     """What a file of such rows has; what is none tells nothing."""
     return {Made(it[1], it[2]) for it in map(ROW.fullmatch, text.splitlines()) if it is not None}
+
+
+def read_never_sent(text: str) -> set[Made]:
+    """What a person took out of such a file, by whose word no line of it was ever handed out."""
+    return {Made(it[1], it[2]) for it in map(NEVER_SENT.fullmatch, text.splitlines()) if it is not None}
+
+
+def list_to_add(present: str, backed_up: str) -> list[Made]:
+    """Of what a backup has as made comes back each that isn't there and that no person took out here: one more makes nothing anew, and none that is there goes."""
+    return sorted(read_made(backed_up) - read_made(present) - read_never_sent(present))
+
+
+def take_out(text: str, made: Made, date: str) -> str:
+    """The file without the row of what was made, and with one of the day on which a person took it out."""
+    rows = [row for row in text.splitlines() if row != made.text]
+    return "".join(f"{row}\n" for row in [*rows, f"never-sent {made.text} {date}"])
+
+
+class Known(NamedTuple):
+    """What is known of what a person says was never handed out: whether it is noted as made, whether its store is there, whether anything stands beside that place, and
+    whether a line of it, or of what a further part of it can be called, is among the user's own."""
+
+    is_noted: bool
+    has_store: bool
+    has_beside: bool
+    has_line: bool
+
+
+class TakeOut(Enum):
+    """Whether a row is taken out, or why it isn't."""
+
+    YES = "yes"
+    UNNOTED = "nothing is noted of it"
+    STORE_THERE = "its store is there"
+    BESIDE = "files of it stand beside"
+    LINE_KEPT = "a line of it is kept"
+
+
+def weigh_taking_out(known: Known) -> TakeOut:
+    """A row is taken out on a person's word, where nothing here tells otherwise: neither its store nor a file of it is there, and no line of it is kept."""
+    if not known.is_noted:
+        return TakeOut.UNNOTED
+    if known.has_store:
+        return TakeOut.STORE_THERE
+    if known.has_beside:
+        return TakeOut.BESIDE
+    return TakeOut.LINE_KEPT if known.has_line else TakeOut.YES
 
 
 def list_names(noted: Collection[Made], folder: bytes) -> set[str]:

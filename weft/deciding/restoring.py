@@ -106,12 +106,13 @@ class Answer(NamedTuple):
 
 
 class Beside(NamedTuple):
-    """What stands beside a store: its lines; its entries; and whether it ought to have entries, as a store has in which a step with
-    events was made and that is one of a log."""
+    """What stands beside a store: its lines; its entries; whether it ought to have entries, as a store has in which a step with
+    events was made and that is one of a log; and the records of a service in which events are recorded."""
 
     has_lines: bool
     has_entries: bool
     needs_entries: bool
+    has_records: bool = False
 
 
 class Seal(NamedTuple):
@@ -132,11 +133,12 @@ class Likeness(Enum):
 
 
 class Missing(Enum):
-    """What is missing beside a store with steps."""
+    """What is missing beside a store with steps; or that it is no log, since records stand beside it in the place of entries."""
 
     NOTHING = "nothing"
     LINES = "lines"
     ENTRIES = "entries"
+    LOG = "log"
 
 
 class Named(Enum):
@@ -284,12 +286,14 @@ def is_copied(last: Line, seal: Optional[Seal], identity: Optional[str]) -> bool
 
 def find_missing(last: Line, beside: Beside) -> Missing:
     """A store with steps makes none where its lines don't stand beside it, or the entries that it ought to have don't: it may have been
-    copied without them, and then nothing tells whether it is an old one."""
+    copied without them, and then nothing tells whether it is an old one. One of recorded events has none, and is no log."""
     if last.step == 0:
         return Missing.NOTHING
     if not beside.has_lines:
         return Missing.LINES
-    return Missing.ENTRIES if beside.needs_entries and not beside.has_entries else Missing.NOTHING
+    if not beside.needs_entries or beside.has_entries:
+        return Missing.NOTHING
+    return Missing.LOG if beside.has_records else Missing.ENTRIES
 
 
 def compare_named(last: Line, proved: Optional[Line], named: Line) -> Named:

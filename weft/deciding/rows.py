@@ -24,8 +24,8 @@ def read_as_table(text: str, front: str) -> str:
 
 class Row(NamedTuple):
     """A row of a table: the path within the folder, how many bytes were read and their SHA-256 digest (- where none could be read), the
-    verdict, the status of this file by itself, why, the lines that it rests on, and where it is shown all lines that it tells, what it tells of an archive, and by which
-    day its lines stood, as stamps say now: a row that is read again has none. Its texts are printable, so none has a tab."""
+    verdict, the status of this file by itself, why, the lines that it rests on, and where it is shown all lines that it tells, what it tells of an archive, or by whose
+    word it tells what others recorded, and by which day its lines stood, as stamps say now: a row that is read again has none. Its texts are printable, so none has a tab."""
 
     file: str
     bytes: int

@@ -138,6 +138,11 @@ def is_private_key(head: bytes) -> bool:
     return head.startswith(b"-----BEGIN ") and b"PRIVATE KEY-----" in head
 
 
+def is_public_key(head: bytes) -> bool:
+    """A file that begins with a known type of key and the first digits of a key is a public one."""
+    return any(head.startswith(name + b" AAAA") for name in KEY_KINDS)
+
+
 def read_public_key(data: bytes) -> Union[PublicKey, KeyFault]:
     """A public key is exactly one line `type key [comment]` of a known type, which the key itself has too; of other bytes the answer is why not."""
     lines = data.removesuffix(b"\n").removesuffix(b"\r").replace(b"\r", b"\n").split(b"\n")

@@ -13,7 +13,7 @@ DAY = 86_400
 
 class Concern(Enum):
     """What asks for a look: the store isn't the right one, or may be an old one; two histories of a peer were shown; a peer is silent, or isn't accepted yet; steps
-    aren't in the last backup, or that isn't where it was made; no step was made, or no turn, for too many days."""
+    aren't in the last backup, or that isn't where it was made; no step was made, no turn, or no stamp, for too many days; or a stamp isn't renewed that is due to be."""
 
     OLD = "old store"
     DOUBT = "doubt"
@@ -24,6 +24,8 @@ class Concern(Enum):
     LOST_BACKUP = "no backup there"
     NO_STEP = "no step"
     NO_TURN = "no turn"
+    NO_STAMP = "no stamp"
+    STAMP_DUE = "stamp due"
 
 
 STATUSES = {Concern.OLD: Status.OLD_STORE, Concern.FORK: Status.CONTRADICTION}
@@ -42,7 +44,8 @@ class PeerState(NamedTuple):
 
 class State(NamedTuple):
     """What is known of a service: its last step, and when its store was changed last, 0 for never; up to which step the last backup goes, None where none was made, and
-    whether it is where it was made; when the last turn was, None of one without a box; whether the store isn't the right one, or may be an old one; and its peers."""
+    whether it is where it was made; when the last turn was, None of one without a box; whether the store isn't the right one, or may be an old one; its peers; and when its last line
+    was stamped, and the next renewal is due, None where lines aren't stamped each night."""
 
     step: int
     changed: int
@@ -52,6 +55,8 @@ class State(NamedTuple):
     is_old: bool = False
     is_doubted: bool = False
     peers: Sequence[PeerState] = ()
+    stamped: Optional[int] = None
+    due: Optional[int] = None
 
 
 class Asking(NamedTuple):
@@ -77,6 +82,10 @@ def list_concerns(state: State, now: int, days: int) -> list[Asking]:
         found.append(Asking(Concern.NO_STEP))
     if state.turn is not None and is_late(state.turn, now, days):
         found.append(Asking(Concern.NO_TURN))
+    if state.stamped is not None and is_late(state.stamped, now, days):
+        found.append(Asking(Concern.NO_STAMP))
+    if state.due is not None and days > 0 and state.due + days * DAY < now:
+        found.append(Asking(Concern.STAMP_DUE))
     if state.backed_up is not None and state.backed_up < state.step:
         found.append(Asking(Concern.BEHIND))
     if state.backed_up is not None and not state.is_backup_there:

@@ -22,7 +22,6 @@ from weft.trouble import Trouble
 from weft.words import keep
 
 NAME = "accept"
-SUMMARY = "confirms a new peer of a box: its name, its line and its key"
 DETAILS = (
     "Makes the peer's folders, notes its public key (--key), and accepts it by the line that its waiting message tells. Compare that line with what "
     "the peer gave you by another way (by telephone, on paper, on its page), or name a file that has it: then both have to be the same. Where a key of "

@@ -14,10 +14,9 @@ from weft.texts import count_of, listed, name_of
 from weft.waiting import add_wait
 
 NAME = "backup"
-SUMMARY = "makes a backup of a service, in one file"
 DETAILS = (
-    "TO gets the store with all its parts, what stands beside it, the box without what came, your kept lines and signers, and with --keys the key: a tar file of one "
-    "moment. It comes there whole or not at all, and in the place of none that has later steps. Run it behind weft exchange, and before the carrier. DIR.backup notes it."
+    "TO gets the store with all its parts, what stands beside it, the box without what came, your kept lines with their stamps, your signers, and with --keys the key: a "
+    "tar file of one moment. It comes there whole or not at all, and in the place of none that has later steps. Run it behind weft exchange, and before the carrier. DIR.backup notes it."
 )
 STATUSES = (Status.LOOK, Status.BUSY, Status.OLD_STORE)
 EXAMPLE = "weft backup /srv/log /backup/log.backup\nweft backup /srv/log /srv/box /backup/log.backup --keys"
@@ -47,7 +46,7 @@ def run(options: argparse.Namespace) -> Status:
         complain(f"{made.doubt}. So is the backup.")
     for text in made.lost_told:
         complain(f"{name_of(options.to)}: {text}")
-    status = Status.LOOK if made.left_out or made.lost or made.doubt is not None else Status.DONE
+    status = Status.LOOK if made.left_out or made.lost_told or made.doubt is not None else Status.DONE
     if options.json:
         line, count = made.manifest.last._asdict(), sum(bool(item.digest) for item in made.manifest.items)
         what = {"line": line, "file": os.fspath(options.to), "files": count, "bytes": made.size, "list": made.manifest.digest}

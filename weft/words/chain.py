@@ -25,7 +25,6 @@ from weft.texts import count_of, listed, name_of, typed
 from weft.trouble import Trouble
 
 NAME = "chain"
-SUMMARY = "makes the proof that one event precedes another"
 DETAILS = (
     "It finds a way from the earlier event to the later one by the receipts of boxes, stores and files. It takes each part from where it is at hand, and "
     "asks peers for the others by their requests: run weft exchange, let it be carried, and run weft chain again. It joins them, and has the whole "
@@ -88,7 +87,7 @@ def read_below(path: Path) -> Optional[bytes]:
     try:
         return files.read(path, formats.MOST_PROOF, follow=False)
     except Trouble as trouble:
-        complain(f"passed over: {trouble.told()}")
+        complain(f"passed over: {trouble.describe()}")
         return None
 
 

@@ -26,7 +26,6 @@ from weft.trouble import Trouble
 from weft.waiting import add_wait
 
 NAME = "check"
-SUMMARY = "checks a store: each step, and each line that was kept of it"
 DETAILS = (
     "The history is exported once and each authenticator computed anew; each is held against the link that the program proves, and against the lines "
     "that were kept. Each received line is proved; of the events 200 are, or with --all each. The pages are held against one another. A step is made on a copy of "
@@ -67,7 +66,7 @@ def run(options: argparse.Namespace) -> Status:
         going = standing.weigh(command, unmade, LOOKED_FOR)
         whole = [checked(options, standing, part.store, not going.ended) for part in standing.parts]
         status = worst_of([going.status, *(it.status for it in whole)])
-        told = [*going.told, *(trouble.told() for trouble in going.ended)]
+        told = [*going.told, *(trouble.describe() for trouble in going.ended)]
         for text in told:
             complain(text)
         for part, it in zip(standing.parts, whole) if options.json else ():
@@ -93,7 +92,7 @@ class Outcome(NamedTuple):
     agreeing: int
     untried: Optional[Trouble] = None
 
-    def found(self, disputed: int = 0) -> Found:
+    def count_found(self, disputed: int = 0) -> Found:
         """What was found, where so many steps have kept lines that contradict."""
         return Found(len({it.step for it in self.bad}), len(self.wrong), disputed)
 
@@ -110,14 +109,14 @@ def checked(options: argparse.Namespace, standing: Standing, store: Store, may_m
         tell(options, store, top, outcome)
     disputed = [step for _, step in kept.disputes_of(top.service)]
     for step in disputed:
-        complain(kept.contradiction(top.service, step).told())
+        complain(kept.contradiction(top.service, step).describe())
     if disputed:
         complain(whose(store))
-    status = judge_check(outcome.found(len(disputed)), outcome.looked)
+    status = judge_check(outcome.count_found(len(disputed)), outcome.looked)
     is_looked_at = may_make_entries(status) and (may_make or not options.entries)
     entries = looked_at_entries(options, store, top, exported.history) if is_looked_at else EntryState.UNSEEN
     if outcome.untried is not None:
-        complain(f"Not looked at: whether a next step follows. {outcome.untried.told()}")
+        complain(f"Not looked at: whether a next step follows. {outcome.untried.describe()}")
     status = worst_of([status, judge_entries(entries), Status.DONE if outcome.untried is None else Status.LOOK])
     return Checked({**as_json(top, outcome), "disputed": disputed, "entries": entries.value}, status)
 
@@ -144,7 +143,7 @@ def looked_at_entries(options: argparse.Namespace, store: Store, top: Line, hist
     differing = find_differing(entries.lines(), steps, recorded.is_of_log)
     if differing is None:
         return EntryState.GOOD
-    complain(recorded.differing_entry(options.folder, entries, differing).told())
+    complain(recorded.differing_entry(options.folder, entries, differing).describe())
     return EntryState.DIFFERING
 
 
@@ -254,13 +253,13 @@ def tell(options: argparse.Namespace, store: Store, top: Line, outcome: Outcome)
         events = f"{looked.proved:,} of {count_of(looked.events, 'event')}" if looked.events is not None else count_of(looked.proved, "event")
         history = outcome.exported.history
         received = f", {count_of(len(history.received), 'received line')}" if history is not None and history.received else ""
-        say(f"links{received} and {events} proved by the program, {judge.told('strict')}")
+        say(f"links{received} and {events} proved by the program, {judge.name_judges('strict')}")
         why = outcome.exported.why
         say(f"authenticators computed anew by: {judges.REFERENCE}, from the export" if not why else f"{why[0].upper()}{why[1:]}.")
     if unseen:
         what = "" if options.all else f" weft check --all {name_of(store.path)} proves each event."
         say(f"Not looked at: {listed(unseen)}. So nothing is said of that.{what}")
-    if judge_check(outcome.found(), looked) in (Status.BAD_STORE, Status.OLD_STORE):
+    if judge_check(outcome.count_found(), looked) in (Status.BAD_STORE, Status.OLD_STORE):
         say(f"Append nothing to {name_of(store.path)}: go back to a backup that has your last line, and look at the device.")
 
 

@@ -8,7 +8,8 @@ from pathlib import Path
 from typing import Optional
 
 from weft import box as boxes
-from weft import backups, fetching, files, judges, locks, own, parts, program, publishing
+from weft import backups, fetching, files, judges, locks, own, parts, program, publishing, stamping
+from weft.deciding.roads import Address
 from weft.deciding.standing import Command
 from weft.lines import Line
 from weft.exchange import Turn
@@ -22,13 +23,12 @@ from weft.trouble import Trouble
 from weft.waiting import add_wait
 
 NAME = "exchange"
-SUMMARY = "makes a service's turn with its peers, over the web or over folders that anything may carry"
 DETAILS = (
     "For each peer the box has a folder of its name (A BOX). Messages that are signed by the key kept for the peer are received; requests of peers for threads "
     "and links are answered. A new peer waits for weft accept. What can't be read, a peer of which nothing new came for three turns, and lines of a service "
     "that no link joins, are told, with 10. Two signed lines that no one history has, and proofs that break a rule, end each turn with 11, until they are moved "
     "out of the box. Before its history outgrows its file the service goes on in a new part; a peer's next part is taken where it is proved to be that. Where "
-    "box.conf says so, it fetches first, and publishes at its end. Else run it each night before the backup, and that before the carrier; after a restore with --look."
+    "box.conf says so, it fetches first, and at its end has its line stamped, and publishes. Else run it each night before the backup, and that before the carrier; after a restore with --look."
 )
 STATUSES = (Status.LOOK, Status.CONTRADICTION, Status.BUSY, Status.OLD_STORE)
 EXAMPLE = "weft exchange /srv/log /srv/box\nrsync -r log@bank.example: /srv/box/bank/in/\nweft exchange /srv/log /srv/box --look"
@@ -78,7 +78,7 @@ def run(options: argparse.Namespace) -> Status:
     status = turn.ended(trouble)
     say_all(options, turn, status)
     if trouble is not None:
-        complain(trouble.told())
+        complain(trouble.describe())
     return status
 
 
@@ -97,8 +97,10 @@ def note_fetched(turn: Turn, fetched: dict[str, Fetched]) -> None:
 
 
 def hand_out(turn: Turn, folder: Path, settings: boxes.Settings, wait: float) -> None:
-    """Backs the service up, and then publishes what the turn put out, where box.conf says so. What hinders that is told, and counts; the turn stands, and nothing is
-    published that isn't in the backup."""
+    """Has the line stamped, backs the service up, and then publishes what the turn put out, where box.conf says so. What hinders that is told, and counts; the turn stands,
+    and nothing is published that isn't in the backup."""
+    if settings.stamp is not None:
+        stamp(turn, folder, settings.stamp)
     try:
         private = publishing.Private(folder, backed_up(turn, folder, settings.backup, wait) if settings.backup is not None else None)
         if settings.publish is None:
@@ -109,8 +111,19 @@ def hand_out(turn: Turn, folder: Path, settings: boxes.Settings, wait: float) ->
         turn.told += [f"{text}." for text in done.needs]
         turn.look(Status.LOOK if done.needs else Status.DONE)
     except Trouble as trouble:
-        turn.told.append(trouble.told())
+        turn.told.append(trouble.describe())
         turn.look(trouble.status)
+
+
+def stamp(turn: Turn, folder: Path, address: Address) -> None:
+    """Has the line that the turn made stamped."""
+    try:
+        done = stamping.stamp_night(folder, stamping.Wanted(address))
+        turn.told += done.told
+        turn.look(done.status)
+    except Trouble as trouble:
+        turn.told.append(trouble.describe())
+        turn.look()
 
 
 def backed_up(turn: Turn, folder: Path, to: Path, wait: float) -> tuple[Line, ...]:

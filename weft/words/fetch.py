@@ -15,7 +15,6 @@ from weft.trouble import Trouble
 from weft.waiting import add_wait
 
 NAME = "fetch"
-SUMMARY = "fetches what a peer has published for this service into its folder `in`"
 DETAILS = (
     "What is new there is brought by HTTPS, as by any carrier: nothing of it is believed before weft exchange has looked. box.conf limits files, bytes and seconds, "
     "and nothing is followed to another host. What is listed and doesn't come is told, with 10. With `url PEER = URL` in box.conf weft exchange does this first."

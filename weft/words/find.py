@@ -11,7 +11,7 @@ from weft import files, judges
 from weft.deciding.matching import digests_of
 from weft.deciding.standing import Command
 from weft.deciding.worst import worst_of
-from weft.finding import Place, Proved, Prover, Wanted, beside_it, in_history, in_json, named, of_text, proof_name
+from weft.finding import HEAD, Place, Proved, Prover, Wanted, beside_it, in_history, in_json, named, of_text, proof_name
 from weft.judges import Bench
 from weft.output import collect, complain, say, say_json
 from weft.parts import Part
@@ -23,7 +23,6 @@ from weft.texts import beside, name_of
 from weft.trouble import Trouble
 
 NAME = "find"
-SUMMARY = "tells where a file, a digest or a text was recorded, and makes the proofs"
 DETAILS = (
     "It is looked for in all parts of the service, in SERVICE.records and SERVICE.entries. Each place that is found is proved by the service, under its last line, before it "
     "is told; that there is no other isn't."
@@ -103,5 +102,6 @@ def write(folder: Path, it: Wanted, place: Place, made: Proved) -> Path:
     """Writes the proof of a place, and answers its file."""
     files.make_folder(folder)
     path = folder / proof_name(it, place)
+    files.expect_begins(path, made.proof[:HEAD], "proof")
     files.hand_out(path, made.proof)
     return path

@@ -7,7 +7,7 @@ import itertools
 from pathlib import Path
 from typing import Collection, Iterator, NamedTuple, Optional, Union
 
-from weft import bulk, bundles, choosing, dated, facts, files, formats, judges, lines, outcomes, reports, sheets, signatures, stamps
+from weft import beacons, bulk, bundles, choosing, dated, facts, files, formats, judges, lines, outcomes, reports, sheets, signatures, stamps
 from weft.choosing import Judgement
 from weft.deciding.bundles import is_on_a_word
 from weft.deciding.choosing import Extent, Headline
@@ -26,14 +26,13 @@ from weft.texts import count_of, name_of
 from weft.trouble import Trouble, of_machine
 
 NAME = "judge"
-SUMMARY = "judges proofs, map files, evidence and histories under the lines that you kept"
 DETAILS = (
     "It picks the lines that each needs, has it judged, and says what is shown, on whose lines that rests and how each came; or which lines are "
-    "missing, and who may have kept them. First stands shown, shown in part (a line is carried, or kept lines bind a history up to an earlier "
-    "step), not shown or not judged. A low and a high map file of one step are judged together. Proofs that carry a line aren't accepted but with --carried. A "
+    "missing, and who may have kept them. First stands shown, shown in part, not shown or not judged. "
+    "A low and a high map file of one step are judged together. Proofs that carry a line aren't accepted but with --carried. A "
     "history is judged by the rules that it has to keep, and its lines, those that it received too, are held against every kept one. What tells another line than a kept one of that step "
     "(TWO LINES), or contradicts itself, isn't shown. Accepted files that contradict each other on what a service received are told; name the "
-    "link between their lines beside them. With --many all files of a folder are judged into a table."
+    "link between their lines beside them."
 )
 STATUSES = (
     Status.NOT_SHOWN, Status.LOOK, Status.CONTRADICTION, Status.MISSING, Status.BUSY, Status.FEWER, Status.SHOWN_BY_REFERENCE, Status.NOT_SHOWN_BY_REFERENCE,
@@ -55,6 +54,8 @@ def add(parser: argparse.ArgumentParser) -> None:
     signatures.add_signers(parser)
     stamps.add_authorities(parser)
     parser.add_argument("--file", action=Once, metavar="F", help="holds the event against the digest and the name of this file")
+    beacon = "tells what was recorded not before DAY (2026-12-01), by FILE, which nobody knew earlier; may be repeated"
+    parser.add_argument("--beacon", metavar=("DAY", "FILE"), nargs=2, action="append", default=[], help=beacon)
     parser.add_argument("--audit", metavar="HISTORY", type=Path, action="append", default=[], help="holds what is shown against this history; may be repeated")
     parser.add_argument("--carried", action="store_true", help="accepts proofs that carry lines, and says which")
     parser.add_argument("--top", action=Once, metavar="STEP", type=int, help="of a history: judges it up to this step (else up to its last one)")
@@ -99,6 +100,7 @@ def run(options: argparse.Namespace) -> Status:
     judge = judges.bench(options.reference)
     expect_words(options)
     options.sheet, options.days = Sheet([], [], []), stamps.Days(kept, options.authorities)
+    options.beacons = beacons.read_beacons(options.beacon)
     for text in choosing.told_kept(options.kept) if not options.json else ():
         say(text)
     status = bulk.run(options, kept, judge) if options.many else judge_named(options, kept, judge)
@@ -108,8 +110,8 @@ def run(options: argparse.Namespace) -> Status:
 def expect_words(options: argparse.Namespace) -> None:
     """Raises Trouble where words don't go together, before anything is judged."""
     if options.many:
-        if options.proofs or options.file or options.svg or options.report or options.audit or options.top is not None:
-            raise Trouble(Status.USAGE, "--many takes no proofs, --file, --svg, --report, --audit or --top beside it", "See weft judge --help.")
+        if options.proofs or options.file or options.beacon or options.svg or options.report or options.audit or options.top is not None:
+            raise Trouble(Status.USAGE, "--many takes no proofs, --file, --beacon, --svg, --report, --audit or --top beside it", "See weft judge --help.")
         return
     if options.dask or options.tls:
         raise Trouble(Status.USAGE, "--dask and --tls are for --many", "See weft judge --help.")
@@ -121,8 +123,8 @@ def judge_named(options: argparse.Namespace, kept: KeptLines, judge: Bench) -> S
     """Judges the files that were named, each of them, whatever came of those before it; the worst of it counts."""
     read = [read_named(options, path) for path in options.proofs]
     groups = grouped([it for it in read if isinstance(it, Named)])
-    if (options.svg or options.file or options.audit or options.top is not None) and (len(groups) != 1 or len(read) != sum(map(len, groups))):
-        raise Trouble(Status.USAGE, "--svg, --file, --audit and --top are of one proof", "Name one proof.")
+    if (options.svg or options.file or options.beacon or options.audit or options.top is not None) and (len(groups) != 1 or len(read) != sum(map(len, groups))):
+        raise Trouble(Status.USAGE, "--svg, --file, --beacon, --audit and --top are of one proof", "Name one proof.")
     statuses = [it for it in read if isinstance(it, Status)]
     shown, broken = [], set[str]()
     try:
@@ -137,11 +139,11 @@ def judge_named(options: argparse.Namespace, kept: KeptLines, judge: Bench) -> S
         broken |= contradicted(options, judge, shown)
         statuses += [Status.CONTRADICTION if broken else Status.DONE, told_apart(options, kept, judge, shown, broken)]
     except Trouble as trouble:
-        complain(trouble.told())
+        complain(trouble.describe())
         statuses.append(trouble.status)
-        options.sheet.between.append(trouble.told())
+        options.sheet.between.append(trouble.describe())
         if options.json:
-            say_json({"status": int(trouble.status), "says": [trouble.told()]})
+            say_json({"status": int(trouble.status), "says": [trouble.describe()]})
     if options.report and options.sheet.each:
         sheet: Sheet = options.sheet
         files.hand_out(options.report, sheets.page(sheet.each, sheet.pictures, sheet.between, worst_of([*statuses, kept.status])))
@@ -171,7 +173,7 @@ def tell_trouble(options: argparse.Namespace, group: list[Named], trouble: Troub
         say_json(known)
         return
     say(f"{' and '.join(name_of(it.path) for it in group)}: {Headline.NOT_JUDGED.value}")
-    complain(trouble.told())
+    complain(trouble.describe())
 
 
 def grouped(named: list[Named]) -> list[list[Named]]:
@@ -215,7 +217,7 @@ def judge_group(options: argparse.Namespace, kept: KeptLines, judge: Bench, grou
         if group[0].kind == "bundle":
             bundles.expect_alone(options)
             opened = bundles.open_bundle(group[0], kept, options.days, options.signers or signatures.default_signers())
-            group, kept = [opened.proof], opened.kept
+            group, kept = opened.proofs, opened.kept
         judgement = choosing.with_held(judge, group[0].data, kept, outcomes.judgement_of(judge, kept, group, options.carried, options.top))
         outcome = outcomes.outcome_of(judge, kept, group, judgement)
         told = [*dated.sentences(judge, options.days, group, judgement, outcome), *choosing.uncounted_sentences(kept, services_of(judgement))]
@@ -227,25 +229,34 @@ def judge_group(options: argparse.Namespace, kept: KeptLines, judge: Bench, grou
         raise
     is_held = outcomes.is_held_against(judgement, outcome)
     if opened is not None:
-        outcome = bundles.with_met(bundles.with_record(judge, outcome, opened, judgement), opened, judgement, own)
-    if is_held and options.file:
-        outcome = outcomes.unless_troubled(outcome, lambda it: outcomes.with_file(judge, it, judgement, group, options.file))
-    elif is_held and (opened is None or opened.record is None):
-        outcome = outcomes.without_file(judge, outcome, judgement, group)
-    if is_held and options.audit:
-        outcome = outcomes.unless_troubled(outcome, lambda it: outcomes.with_histories(judge, kept, it, judgement, group[0].data, options.audit))
-    known = facts.facts(options, judge, kept, group if opened is None else [opened.proof._replace(path="proof")], judgement, outcome) if options.json or options.report else {}
+        outcome = bundles.with_met(bundles.with_records(judge, outcome, opened, judgement), opened, judgement, own)
+    outcome = held_against(options, kept, judge, group, judgement, outcome, is_bundled=opened is not None and bool(opened.records)) if is_held else outcome
+    known = facts.facts(options, judge, kept, group if opened is None else bundles.taken_out(opened), judgement, outcome) if options.json or options.report else {}
     if known and opened is not None:
         known = bundles.facts_of(known, whole, opened)
     if options.json:
         say_json(known)
     else:
-        tell(judge, group, judgement, outcome)
+        tell(judge, group if opened is None else [whole], judgement, outcome)
     picture = facts.picture_of(judge, group, judgement, outcome) if options.svg or options.report else None
     if options.report:
         options.sheet.add(known, picture)
     is_doubtful = opened is not None and is_on_a_word(judgement.counting, opened.met)
     return Judged(group, None if is_doubtful else judgement, outcome.status, outcome.is_refuted, picture)
+
+
+def held_against(options: argparse.Namespace, kept: KeptLines, judge: Bench, group: list[Named], judgement: Judgement, outcome: Outcome, is_bundled: bool) -> Outcome:
+    """The outcome of an accepted proof, held against the files that were named: a document, where none came in a bundle, beacons and histories."""
+    if options.file:
+        outcome = outcomes.unless_troubled(outcome, lambda it: outcomes.with_file(judge, it, judgement, group, options.file))
+    elif not is_bundled:
+        outcome = outcomes.without_file(judge, outcome, judgement, group)
+    if options.beacon:
+        after = dated.not_after(judge, options.days, group, judgement, outcome)
+        outcome = outcomes.unless_troubled(outcome, lambda it: beacons.with_beacons(judge, it, judgement, group, options.beacons, after))
+    if options.audit:
+        outcome = outcomes.unless_troubled(outcome, lambda it: outcomes.with_histories(judge, kept, it, judgement, group[0].data, options.audit))
+    return outcome
 
 
 def hand_out_picture(options: argparse.Namespace, picture: Optional[str]) -> Status:
@@ -336,5 +347,5 @@ def tell_contradiction(options: argparse.Namespace, judge: Bench, verdict: Verdi
         by = [one.name for one in judge.seated("contradict")]
         say_json({"contradiction": [first, second], "status": int(Status.CONTRADICTION), "text": verdict.text, "says": told, "judged_by": by})
         return
-    for sentence in [*told, f"  {judge.told('contradict')}"]:
+    for sentence in [*told, f"  {judge.name_judges('contradict')}"]:
         say(sentence)

@@ -9,7 +9,7 @@ import sys
 from pathlib import Path
 from typing import NamedTuple, Optional
 
-from weft import files, kinds, lines, locks, signatures, stamps
+from weft import files, kinds, lines, locks, made, signatures, stamps
 from weft.deciding.keeping import Outcome
 from weft.deciding.signatures import BEGIN, PublicKey, Signed, read_armour, read_signed_line
 from weft.deciding.stamps import Fault, Placing
@@ -22,7 +22,6 @@ from weft.texts import beside, listed, name_of, typed
 from weft.trouble import Trouble
 
 NAME = "keep"
-SUMMARY = "keeps a line that came from somebody, with how it came and when"
 DETAILS = (
     "A line with a signature (FILE.sig beside it, or in the same file) is checked by ssh-keygen against the key that the file of signers has for "
     "the service's name. Lines without one are kept with the words of --by, also as they are typed from a letter; what was typed wrong is "
@@ -47,6 +46,8 @@ def add(parser: argparse.ArgumentParser) -> None:
     parser.add_argument("--choose", action="store_true", help="of lines of one step that differ, lets that of FILE count from now on, and not the others")
     parser.add_argument("--found", action="store_true", help="keeps lines amid other words too, once you have read these")
     add_stamps(parser)
+    text = "says that no line of NAME, made in DIR, ever went out: it can be made anew, where nothing here tells otherwise"
+    parser.add_argument("--never-sent", nargs=2, metavar=("NAME", "DIR"), help=text)
     add_places(parser)
     parser.add_argument("--json", action="store_true", help="writes JSON")
 
@@ -139,6 +140,8 @@ def run(options: argparse.Namespace) -> Status:
     kept, signers = options.kept or lines.default_kept(), options.signers or signatures.default_signers()
     for path in (kept, signers):
         files.expect_no_own(path)
+    if options.never_sent:
+        return take_out_made(options, kept)
     if options.authority or options.stamp:
         return keep_stamped(options, kept)
     signer = named_signer(*options.signer) if options.signer else None
@@ -176,6 +179,16 @@ def keep_stamped(options: argparse.Namespace, kept: Path) -> Status:
     if options.file is None:
         raise Trouble(Status.USAGE, "no file of a line is named", "Name the line beside its stamp: weft keep LINE --stamp STAMP.")
     return keep_stamp(options, kept)
+
+
+def take_out_made(options: argparse.Namespace, kept: Path) -> Status:
+    """Lets a service be made anew of which no line ever went out, by a person's word: a command by itself."""
+    if any((options.file, options.by, options.signer, options.introduced, options.choose, options.found, options.beside, options.authority, options.stamp)):
+        raise Trouble(Status.USAGE, "--never-sent goes without other words", "See weft keep --help.")
+    name, folder = options.never_sent
+    told = made.never_sent(lines.checked_name(name), files.folder_named(folder), kept)
+    say_json({"never_sent": name, "folder": folder, "status": int(Status.DONE), "says": [told]}) if options.json else say(told)
+    return Status.DONE
 
 
 def note_authority(options: argparse.Namespace) -> Status:
@@ -294,7 +307,7 @@ def tell(options: argparse.Namespace, path: Path, placed: list[Placed], introduc
             known = ": that was kept already" if it.outcome is Outcome.KNOWN else ""
             say(f"The line of step {line.step} of {line.service} is kept in {name_of(path)}, {it.kept.how}{known}.")
         if it.trouble is not None:
-            complain(it.trouble.told())
+            complain(it.trouble.describe())
         elif options.choose and not options.json:
             say(f"It counts, and of that step no longer {listed(it.others)}." if it.others else "No other line of that step was kept: nothing had to be chosen.")
     if options.json:

@@ -4,7 +4,7 @@ from __future__ import annotations
 
 import argparse
 from pathlib import Path
-from typing import NamedTuple
+from typing import NamedTuple, Optional
 
 from weft import cameras, files, introducing, judges, locks, parts, program, signatures
 from weft.deciding import letters
@@ -22,7 +22,6 @@ from weft.trouble import Trouble
 from weft.waiting import add_wait
 
 NAME = "line"
-SUMMARY = "prints the line of a service's last step, and signs it"
 DETAILS = (
     "The line is what others keep of the service: its name, the number of the step and its authenticator. Of a service without steps it is that "
     "of step 0. With --sign the line stands in a file, and beside it in a file .sig its signature by ssh-keygen: hand out both. What is printed is noted "
@@ -50,22 +49,26 @@ def run(options: argparse.Namespace) -> Status:
     files.expect_folder(folder, "the folder of the service")
     parts.expect_whole(folder)
     key = introduced_key(options) if options.introduce else None
+    expect_beside(options, options.out)
     with locks.held(beside(folder, ".lock"), options.wait, folder):
         named = introducing.name_key(folder, key) if key is not None else None
         line, going = noted_line(folder)
     text = f"{line.text}\n".encode()
     out = options.out or (files.unchosen(f"{line.service}-{line.step}.line", text) if options.sign else None)
     written = []
-    if options.sign:
-        signed = signatures.sign(line, options.sign)
-        files.hand_out(f"{out}.sig", signed.signature)
-        written.append(f"{out}.sig")
-    if named is not None and key is not None:
-        files.hand_out(f"{out}.key", introducing.introduction_of(named, key, options.sign))
-        written.append(f"{out}.key")
+    expect_beside(options, out)
+    signed = signatures.sign(line, options.sign) if options.sign else None
+    introduction = introducing.introduction_of(named, key, options.sign) if named is not None and key is not None else None
+    # The line comes first: where a run is stopped behind it, the next one knows by it that what stands beside it is its own.
     if out:
         files.hand_out(Path(out), text)
-        written.insert(0, out)
+        written.append(out)
+    if signed is not None:
+        files.hand_out(f"{out}.sig", signed.signature)
+        written.append(f"{out}.sig")
+    if introduction is not None:
+        files.hand_out(f"{out}.key", introduction)
+        written.append(f"{out}.key")
     drawn = write_letter(line, options.letter) if options.letter else False
     written += [options.letter, *([f"{options.letter}.svg"] if drawn else [])] if options.letter else []
     if options.json:
@@ -81,6 +84,14 @@ def run(options: argparse.Namespace) -> Status:
             say(f"Hand out {name_of(written[0])} and {name_of(written[1])}; who has your key for {line.service} keeps it by: weft keep {typed(written[0])}")
     going.tell()
     return going.status
+
+
+def expect_beside(options: argparse.Namespace, out: Optional[str]) -> None:
+    """Raises Trouble where what comes beside a file that is handed out would be written over what isn't its own."""
+    named = [(out, ".sig", options.sign), (out, ".key", options.introduce), (options.letter, ".svg", options.letter)]
+    for path, end, is_wanted in named:
+        if path and is_wanted:
+            files.expect_beside(path, end)
 
 
 def introduced_key(options: argparse.Namespace) -> PublicKey:

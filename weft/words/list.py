@@ -19,7 +19,6 @@ from weft.texts import count_of, name_of, quoted
 from weft.trouble import Trouble
 
 NAME = "list"
-SUMMARY = "lists what a history holds: each step with its claimed time, its events or the line that it received"
 DETAILS = "Nothing is judged: weft judge and weft check do that."
 STATUSES = (Status.LOOK, Status.OLD_STORE)
 EXAMPLE = "weft list /srv/log 1-\nweft list log.history --json"

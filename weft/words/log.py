@@ -20,15 +20,13 @@ from weft.waiting import add_wait
 from weft.walking import Look
 
 NAME = "log"
-SUMMARY = "logs the files of a folder in steps of a service"
 DETAILS = (
     "What is new or changed since the last run is logged by its digest and path, what is gone by its path; each run makes one step at least, which "
     "claims this moment. The service lies in the folder SERVICE and is made, under NAME, at the first run. Beside it stand SERVICE.lines, "
-    "SERVICE.anchor (the line to hand out), and SERVICE.entries (step, index and event of each entry, by which proofs are made). All of that may be read by "
-    "its user alone. Links, pipes and the log itself aren't logged. What can't be looked at, with all that is below it, and what is changed while it is read "
-    "is left out, and isn't called gone. Without SERVICE.lines or SERVICE.entries beside it a store makes no step. Files of which nothing changed aren't read "
-    "but once in seven days; SERVICE.known has their states. Before its history outgrows its file the log goes on in a new part, in SERVICE/part-2 and so on. "
-    "A run that was stopped is brought to its end by the next one."
+    "SERVICE.anchor (the line to hand out), and SERVICE.entries (step, index and event of each entry, by which proofs are made). "
+    "Links, pipes and the log itself aren't logged. What can't be looked at, with all that is below it, and what is changed while it is read "
+    "is left out, and isn't called gone. Without SERVICE.lines or SERVICE.entries beside it a store makes no step. "
+    "Before its history outgrows its file the log goes on in a new part, in SERVICE/part-2 and so on."
 )
 STATUSES = (Status.LOOK, Status.BUSY, Status.FEWER, Status.OLD_STORE)
 EXAMPLE = "weft log /srv/data /srv/log data\nweft log /srv/data /srv/log"

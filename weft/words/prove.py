@@ -27,7 +27,6 @@ from weft.texts import beside, listed, name_of, typed
 from weft.trouble import Trouble
 
 NAME = "prove"
-SUMMARY = "makes the proof of a file that weft log logged"
 DETAILS = (
     "It looks the file's last entry up in SERVICE.entries, has the service prove it under its last line, or under that of the step --top, which the "
     "reader has to hold, and judges the proof before it is handed out. Of a file that an earlier part of the "
@@ -108,7 +107,7 @@ def run(options: argparse.Namespace) -> Status:
         between = listed([it.last.text for it in all_parts[found.part.number - 1 : -1]])
         before = f"before step {made.top.step} of {made.top.service}, for whoever holds {made.top.text}"
         say(f"{name_of(out)}: {told_event(found.event)} {where}, {before}; and {between}")
-    say(f"  {judge.told(made.judgement.call)}")
+    say(f"  {judge.name_judges(made.judgement.call)}")
     if options.reader:
         say(f"He judges it by: weft judge {typed(out, 'PROOF')} --file {typed(options.file)}")
     told = [unseen] if unseen is not None else []

@@ -13,7 +13,6 @@ from weft.texts import count_of, name_of
 from weft.waiting import add_wait
 
 NAME = "publish"
-SUMMARY = "writes what a service puts out into a folder that any web server hands out"
 DETAILS = (
     "OUT gets each signed line, for good; for each peer a folder with what the last turn put out for it; and a page for people. Who has the address of a peer's "
     "folder reads there your messages, receipts and answers, and with whom you exchange: give it to that peer alone. It can't be guessed, unless box.conf says `open "

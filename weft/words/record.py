@@ -23,7 +23,6 @@ from weft.trouble import Trouble
 from weft.waiting import add_wait
 
 NAME = "record"
-SUMMARY = "records events in a service: words, files, or what standard input has"
 DETAILS = (
     "Each event is answered by its service, step and index there, and the SHA-256 digest of what was handed over; then it is on the disk for good. At the end stands the "
     "line to hand out. What is longer than 1,024 bytes, or begins as a service's words of itself (goes on as, new key), is recorded by its digest, as sha256sum writes that "

@@ -13,7 +13,6 @@ from weft.texts import listed, name_of
 from weft.waiting import add_wait
 
 NAME = "restore"
-SUMMARY = "puts a backup back, where no service is"
 DETAILS = (
     "A backup that was cut or changed is refused, and told where. So is, with 17, one that lacks a line of the service that is known here: beside DIR, among your kept "
     "lines, in --held, or by the note of a later backup; then it tells which peers to ask. Nothing is written over. A restore that was stopped is gone on with. No step "

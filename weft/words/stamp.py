@@ -6,7 +6,7 @@ import argparse
 from pathlib import Path
 from typing import Optional
 
-from weft import files, lines, stamps
+from weft import files, lines, parts, stamping, stamps
 from weft.deciding.roads import Address, Unfit, read_address
 from weft.deciding.stamps import Weighed, read_pieces
 from weft.lines import KeptLines, Line
@@ -17,21 +17,21 @@ from weft.texts import name_of
 from weft.trouble import Trouble
 
 NAME = "stamp"
-SUMMARY = "has a line stamped with a day by a time-stamping authority"
 DETAILS = (
     "Such an authority (RFC 3161) signs that a text was there at a time by its clock: neither whose it is, nor since when. The query is made and the answer checked by "
     "openssl, by the certificates that you trust (weft keep --authority); nothing of it is proved. It is kept as it came, in LINE.stamp and beside a line that you keep. "
-    "Before the certificate expires, have it renewed (--renew), by any authority."
+    "Before the certificate expires, have it renewed (--renew), by any authority. Of a service's folder the last line is stamped, and what is due within 90 days renewed, in "
+    "SERVICE/stamps."
 )
 STATUSES = (Status.NOT_SHOWN, Status.REFUSED, Status.LOOK, Status.MISSING, Status.BUSY)
-EXAMPLE = "weft stamp line --url https://tsa.example/\nweft stamp line --url https://tsa.example/ --renew line.stamp"
+EXAMPLE = "weft stamp line --url https://tsa.example/\nweft stamp line --url https://tsa.example/ --renew line.stamp\nweft stamp /srv/log --url https://tsa.example/"
 MOST_BYTES = 1 << 20
 SECONDS = 30
 
 
 def add(parser: argparse.ArgumentParser) -> None:
     """The words."""
-    parser.add_argument("line", metavar="LINE", help="a file of a line, signed or not")
+    parser.add_argument("line", metavar="LINE", help="a file of a line, signed or not; or the folder of a service")
     parser.add_argument("--url", metavar="URL", required=True, help="the authority's address")
     parser.add_argument("--renew", metavar="STAMP", help="the stamp of it that is renewed")
     parser.add_argument("--out", metavar="OUT", help="the stamp (else LINE.stamp; with --renew STAMP itself)")
@@ -50,22 +50,39 @@ def address_of(text: str) -> Address:
 
 
 def run(options: argparse.Namespace) -> Status:
-    """Has the line stamped."""
+    """Has the line stamped, or those of a service."""
+    if Path(options.line).is_dir():
+        return stamp_service(options)
     address, line = address_of(options.url), stamps.line_of(options.line, files.read(options.line, MOST_BYTES))
     old = stamps.read_file(options.renew) if options.renew else b""
     authorities = stamps.read_authorities(options.authorities)
     if not authorities:
-        return unstamped(options, "you trust no time-stamping authority: weft keep --authority NAME FILE notes the certificates of one", Status.MISSING)
+        return unstamped(options, stamps.NO_AUTHORITY, Status.MISSING)
     with stamps.Bench(authorities) as bench:
         expect_good(bench, line, old, options.renew)
         try:
-            data = old + stamps.asked(line, read_pieces(old) or (), address, options.seconds, bench)
+            data = old + stamps.ask_authority(line, read_pieces(old) or (), address, options.seconds, bench)
         except Unanswered as why:
             return unstamped(options, f"{address.host}: {why}", Status.LOOK)
         weighed = bench.weigh(line, data)
     if weighed.fault is not None:
         raise Trouble(Status.NOT_SHOWN, stamps.stamp_told(line, weighed).removesuffix("."))
     return stamped(options, line, data, weighed)
+
+
+def stamp_service(options: argparse.Namespace) -> Status:
+    """Has the last line of a service stamped, and renews what is due."""
+    if options.renew or options.out or options.kept:
+        raise Trouble(Status.USAGE, "--renew, --out and --kept are for a file of a line", "Of a service's folder all is done by itself.")
+    folder = files.folder_named(Path(options.line))
+    parts.expect_whole(folder)
+    done = stamping.stamp_night(folder, stamping.Wanted(address_of(options.url), options.seconds, options.authorities))
+    if options.json:
+        say_json({"service": str(folder), "told": done.told, "status": int(done.status)})
+    else:
+        for text in done.told or ["Its last line is stamped, and no stamp is due to be renewed."]:
+            say(text)
+    return done.status
 
 
 def expect_good(bench: stamps.Bench, line: Line, old: bytes, name: Optional[str]) -> None:

@@ -8,12 +8,13 @@ import time
 from pathlib import Path
 from typing import Any, NamedTuple, Optional
 
-from weft import backups, files, hearing, judges, parts, signatures
+from weft import backups, files, hearing, judges, parts, signatures, stamping
 from weft import box as boxes
 from weft.box import Peer
 from weft.deciding.backups import Noted
 from weft.deciding.forks import FILE_NAME
 from weft.deciding.signatures import read_signed_line
+from weft.deciding.renewing import Note, first_due, last_of, line_of_stamp
 from weft.deciding.silence import describe_silence, is_silent
 from weft.deciding.standing import Command
 from weft.deciding.watching import Asking, Concern, PeerState, State, list_concerns, status_of
@@ -29,10 +30,9 @@ from weft.texts import count_of, date_of
 from weft.trouble import Trouble
 
 NAME = "status"
-SUMMARY = "tells the state of a service, for monitoring"
 DETAILS = (
-    "It changes nothing, and waits for nobody. Status 10: a silent or a new peer, steps that aren't in the last backup, no step or turn for --days, or a store that may be "
-    "an old one. 11: two histories of a peer. 17: the store isn't that of its lines."
+    "It changes nothing, and waits for nobody. Status 10: a silent or a new peer, steps that aren't in the last backup, no step, turn or stamp for --days, a stamp that "
+    "isn't renewed, or a store that may be an old one. 11: two histories of a peer. 17: the store isn't that of its lines."
 )
 STATUSES = (Status.LOOK, Status.CONTRADICTION, Status.OLD_STORE)
 EXAMPLE = "weft status /srv/log\nweft status /srv/log /srv/box --json"
@@ -43,6 +43,8 @@ TOLD = {
     Concern.SILENT: "{peer} is silent: look whether the carrier runs, and ask it.", Concern.NEW: "{peer} is no accepted peer yet: weft accept.",
     Concern.BEHIND: "the last backup lacks steps: weft backup.", Concern.LOST_BACKUP: "the last backup isn't where it was made: is its device mounted?", Concern.NO_STEP: "no step was made for more than {days}: does the timer run?",
     Concern.NO_TURN: "no turn was made for more than {days}: does the timer run?",
+    Concern.NO_STAMP: "no line was stamped for more than {days}: does the timer run, and what does it tell of the authority?",
+    Concern.STAMP_DUE: "a stamp is due to be renewed for more than {days}: weft stamp tells why it isn't.",
 }  # fmt: skip
 
 
@@ -55,8 +57,8 @@ def add(parser: argparse.ArgumentParser) -> None:
 
 
 class Known(NamedTuple):
-    """What is known of a service: its parts, when its store was changed last, its share of the limit, its last backup and turn; what is known against the store; and its
-    peers, each with what is known of its silence."""
+    """What is known of a service: its parts, when its store was changed last, its share of the limit, its last backup and turn; what is known against the store; its peers,
+    each with what is known of its silence; and what is noted of its stamps."""
 
     found: list[Part]
     changed: int
@@ -65,6 +67,12 @@ class Known(NamedTuple):
     turn: Optional[int]
     going: Going
     peers: list[tuple[Peer, PeerState]]
+    stamps: list[Note]
+
+    @property
+    def stamp(self) -> Optional[Note]:
+        """Its last stamp."""
+        return last_of(self.stamps)
 
     @property
     def old(self) -> Optional[Trouble]:
@@ -82,7 +90,8 @@ class Known(NamedTuple):
         last = self.found[-1].last
         backed_up = None if self.backup is None else self.backup.line.step if self.backup.line.service == last.service else 0
         is_there = self.backup is not None and backups.is_where_noted(self.backup)
-        return State(last.step, self.changed, backed_up, is_there, self.turn, self.old is not None, self.doubt is not None, [state for _, state in self.peers])
+        peers, stamped = [state for _, state in self.peers], None if self.stamp is None else self.stamp.second
+        return State(last.step, self.changed, backed_up, is_there, self.turn, self.old is not None, self.doubt is not None, peers, stamped, first_due(self.stamps))
 
 
 def run(options: argparse.Namespace) -> Status:
@@ -105,7 +114,7 @@ def run(options: argparse.Namespace) -> Status:
         complain(text)
     for it in [it for it in concerns if it.concern is not Concern.DOUBT]:
         text = TOLD[it.concern].format(peer=it.peer, days=count_of(options.days, "day"))
-        complain(text or (known.old.told() if known.old is not None else ""))
+        complain(text or (known.old.describe() if known.old is not None else ""))
     return status
 
 
@@ -116,7 +125,8 @@ def look(folder: Path, box: Optional[Path]) -> Known:
     last = found[-1]
     changed = int(os.stat(last.store.file).st_mtime) if last.last.step else 0
     turn = Notes(box).read().moment if box is not None else None
-    return Known(found, changed, parts.size_of(last.store) / MOST_HISTORY, OwnLines(last.folder).backed_up(), turn, going, peers_of(box, found) if box is not None else [])
+    peers, backup = peers_of(box, found) if box is not None else [], OwnLines(last.folder).backed_up()
+    return Known(found, changed, parts.size_of(last.store) / MOST_HISTORY, backup, turn, going, peers, stamping.notes_of(folder))
 
 
 def peers_of(box: Path, found: list[Part]) -> list[tuple[Peer, PeerState]]:
@@ -152,6 +162,10 @@ def tell(known: Known) -> None:
     say(f"its history has {known.share:.0%} of what a file may have" + (f", in part {len(known.found)}" if len(known.found) > 1 else ""))
     backup = known.backup
     say(f"backup: {f'up to step {backup.line.step} of {backup.line.service}, of {backup.made}' if backup is not None else 'none is noted'}")
+    stamp, due = known.stamp, first_due(known.stamps)
+    if stamp is not None and due is not None:
+        of = line_of_stamp("", stamp.name)
+        say(f"stamp: of step {of.step if of is not None else 0}, {date_of(stamp.second)}, {stamp.authority}; the next renewal is due on {date_of(due)[:10]}")
     if known.turn is not None:
         say(f"last turn: {date_of(known.turn)}")
     for peer, state in known.peers:
@@ -169,8 +183,9 @@ def as_json(known: Known, concerns: list[Asking], status: Status) -> dict[str, A
         "part": len(known.found),
         "share": round(known.share, 4),
         "backup": None if backup is None else {**backup.line._asdict(), "made": backup.made, "list": backup.digest},
+        "stamp": None if known.stamp is None else {**known.stamp._asdict(), "next due": first_due(known.stamps)},
         "turn": known.turn,
-        "old": None if known.old is None else known.old.told(),
+        "old": None if known.old is None else known.old.describe(),
         "doubt": known.doubt,
         "peers": {peer.name: peer_as_json(peer, state, last.step) for peer, state in known.peers},
         "look": [{"what": it.concern.value, "peer": it.peer or None} for it in concerns],

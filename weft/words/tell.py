@@ -15,7 +15,6 @@ from weft.texts import count_of, listed, name_of
 from weft.trouble import Trouble
 
 NAME = "tell"
-SUMMARY = "says what files are and what they say, unjudged"
 DETAILS = (
     "It knows messages, receipts, proofs, map files, evidence, histories, events files, lines, texts of timeweave, and backups. What a file says may be made "
     "up: weft judge judges."
@@ -60,7 +59,7 @@ def run(options: argparse.Namespace) -> Status:
             status = worst_of([status, tell_bad(options, path, Status.UNREADABLE, told_bad)])
             continue
         except Trouble as trouble:
-            status = worst_of([status, tell_bad(options, path, trouble.status, trouble.told())])
+            status = worst_of([status, tell_bad(options, path, trouble.status, trouble.describe())])
             continue
         if options.json:
             say_json({"file": path, "what": what, "says": told, "judged": False, "status": int(Status.DONE)})
