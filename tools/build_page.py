@@ -1,6 +1,6 @@
 #!/usr/bin/env python3
 """Builds the page that checks proofs: web/timeweave.html, one file, and web/timeweave.wasm, the library in it as a module of WebAssembly, which
-web/timeweave.mjs loads. It needs `wasm-opt` (Debian: binaryen) besides the kit.
+web/timeweave.mjs loads. It needs nothing but the kit.
 
     python3 tools/build_page.py             proves the library's crates over a copy, as build_library.py does
     python3 tools/build_page.py --of-gate   takes those that the gate has built here
@@ -10,43 +10,42 @@ One build of Rattle gives all: lib/libtimeweave.a and .so, where there is a C co
 refuses there what calls the C library. So the library is built for x86-64; the LLVM module that Rattle made of it is kept, and the kit's own clang
 compiles that for WebAssembly: both have 64-bit pointers, little end first. To keep it, Rattle is given a toolchain whose clang copies what it is given.
 What is of x86-64 alone is taken out; where the module calls an intrinsic that isn't known here, or has inline assembly, the build stops. So does it where
-clang, the linker or wasm-opt isn't the one whose digest stands below: the bytes made, and what was tested of them, hang on these.
+clang or the linker isn't the one whose digest stands below: the bytes made, and what was tested of them, hang on these. At last the module is given the
+32-bit addresses that every engine takes (addresses.py).
 
-The status is 3 where wasm-opt isn't there, 4 where one of the tools is another one.
+The status is 4 where one of the tools is another one.
 """
 
 import base64
 import hashlib
 import json
+import os
 import re
 import shutil
-import subprocess
 import sys
 import tempfile
 from pathlib import Path
 
 import build_library
 import built
+from addresses import lower_addresses
 from build import prove
 from build_library import NAME
-from crate_copy import TOP, copy_crates
+from crates import TOP, copy_crates
 from kit import KIT, archive, run
 
 WEB = TOP / "web"
 MODULE, PAGE = WEB / "timeweave.wasm", WEB / "timeweave.html"
-NO_WASM_OPT, OTHER_TOOL = 3, 4
+OTHER_TOOL = 4
 
-# The kit's clang is its linker too; the code of wasm-opt (Debian's binaryen 108-1) stands in a library.
+# The kit's clang is its linker too.
 PINNED = {
     "clang": "22b657c8ab338a03324a4b8bae6cf44babb20ceb764b54b83d7e0574fe37c044",
     "ld.lld": "22b657c8ab338a03324a4b8bae6cf44babb20ceb764b54b83d7e0574fe37c044",
-    "wasm-opt": "255bae67a15f9921d6cf77ec8b39fb10a1e8ed6cd7868de6880aa12682fa95eb",
-    "libbinaryen.so": "50cec08613112fdf3911b6f7cf277663c6d8f9b6373716077db459df6367dbbb",
 }
 
 TARGET = ["--target=wasm64-unknown-unknown", "-mcpu=lime1"]
 STACK = 1 << 20
-FEATURES = ["memory64", "bulk-memory", "sign-ext", "mutable-globals", "nontrapping-float-to-int", "multivalue"]
 
 # The intrinsics of LLVM that a module may call: they mean the same on each machine.
 INTRINSICS = {"ctlz", "cttz", "memmove", "memset", "trap"}
@@ -57,7 +56,7 @@ exec "{clang}" "$@"
 """
 
 # The modules of the script, each behind those that it imports.
-SCRIPTS = ["timeweave.mjs", "page/files.mjs", "page/sha256.mjs", "page/letters.mjs", "page/lines.mjs", "page/sentences.mjs", "page/documents.mjs", "page/words.mjs", "page/picture.mjs", "page/opened.mjs", "page/session.mjs", "page/view.mjs", "page/page.mjs"]
+SCRIPTS = ["timeweave.mjs", "page/files.mjs", "page/sha256.mjs", "page/letters.mjs", "page/lines.mjs", "page/sentences.mjs", "page/bundles.mjs", "page/documents.mjs", "page/words.mjs", "page/picture.mjs", "page/opened.mjs", "page/session.mjs", "page/view.mjs", "page/page.mjs"]
 
 
 class Stopped(Exception):
@@ -71,24 +70,13 @@ class Stopped(Exception):
 # ---- the tools
 
 
-def tools():
-    """The paths of the tools, by the names under which they are pinned."""
-    wasm_opt = shutil.which("wasm-opt")
-    if not wasm_opt:
-        raise Stopped("wasm-opt isn't there, which the page is built with (Debian: binaryen)", NO_WASM_OPT)
-    listed = subprocess.run(["ldd", wasm_opt], check=True, capture_output=True, text=True).stdout
-    library = re.search(r"libbinaryen\.so => (\S+)", listed)
-    found = {"clang": KIT / "toolchain/bin/clang", "ld.lld": KIT / "toolchain/bin/ld.lld", "wasm-opt": Path(wasm_opt)}
-    return {**found, **({"libbinaryen.so": Path(library[1])} if library else {})}
-
-
 def check_tools():
-    """The paths of the tools, each of which is the pinned one."""
-    found = tools()
-    for name, wanted in PINNED.items():
-        digest = hashlib.sha256(found[name].read_bytes()).hexdigest() if name in found else "none"
-        if digest != wanted:
-            raise Stopped(f"{found.get(name, name)} isn't the tool that the page was tested with: its SHA-256 is {digest}, and {wanted} is wanted", OTHER_TOOL)
+    """The paths of the tools, each of which is the pinned one, by the names under which they are pinned."""
+    found = {name: KIT / "toolchain/bin" / name for name in PINNED}
+    for name, path in found.items():
+        digest = hashlib.sha256(path.read_bytes()).hexdigest()
+        if digest != PINNED[name]:
+            raise Stopped(f"{path} isn't the tool that the page was tested with: its SHA-256 is {digest}, and {PINNED[name]} is wanted", OTHER_TOOL)
     return found
 
 
@@ -147,17 +135,23 @@ def compiled(module, work, found):
     (work / "wasm.ll").write_text(retargeted((work / "module.ll").read_text()))
     run(clang, *quiet, "-O3", "-ffunction-sections", "-c", "-x", "ir", work / "wasm.ll", "-o", work / "module.o")
     run(clang, *TARGET, "-O2", "-ffreestanding", "-fno-builtin", "-nostdinc", "-Wall", "-Werror", "-c", WEB / "heap.c", "-o", work / "heap.o")
+    made = work / "32.wasm"
+    made.write_bytes(lower_addresses(linked(work, found, exports(), "module.o", "heap.o")))
+    return made
+
+
+def linked(work, found, shown, *objects):
+    """The module with 64-bit addresses that these objects of a folder give, which shows these functions."""
     # (the linker is the one for WebAssembly by its name)
     (work / "wasm-ld").symlink_to(found["ld.lld"])
     words = ["-mwasm64", "--no-entry", "--stack-first", "-z", f"stack-size={STACK}", "--gc-sections", "--strip-all", "--fatal-warnings"]
-    run(work / "wasm-ld", *words, *(f"--export={name}" for name in exports()), work / "module.o", work / "heap.o", "-o", work / "64.wasm")
-    run(found["wasm-opt"], *(f"--enable-{it}" for it in FEATURES), "--memory64-lowering", work / "64.wasm", "-o", work / "32.wasm")
-    return work / "32.wasm"
+    run(work / "wasm-ld", *words, *(f"--export={name}" for name in shown), *(work / name for name in objects), "-o", work / "64.wasm")
+    return (work / "64.wasm").read_bytes()
 
 
 def module_sum():
     """The sum of what the module is built of."""
-    return built.sum_of([NAME], ["tools/build_page.py", "web/heap.c", "include/timeweave.h"])
+    return built.sum_of([NAME], ["tools/build_page.py", "tools/addresses.py", "web/heap.c", "include/timeweave.h"])
 
 
 def build_module(copy, found):
@@ -186,15 +180,32 @@ def declared(text):
     return names
 
 
+IMPORT = re.compile(r'^import \{([^}]*)\} from "([^"]+)";\n', re.M)
+
+
+def join_modules(modules):
+    """The modules, by their paths, as one script: each stands behind those that it imports, no two declare one name, and each name that one imports is declared by the
+    other under that very name; else Stopped is raised."""
+    known, made = {}, []
+    for path, text in modules.items():
+        for names, other in IMPORT.findall(text):
+            source = os.path.normpath(os.path.join(os.path.dirname(path), other))
+            unknown = [name for name in re.split(r",\s*", names.strip().rstrip(",")) if known.get(name) != source]
+            if unknown:
+                raise Stopped(f"{path} imports what {source} doesn't declare before it: {', '.join(unknown)}")
+        twice = [name for name in declared(text) if known.setdefault(name, path) != path]
+        if twice:
+            raise Stopped(f"names that two modules of the page declare: {', '.join(sorted(twice))}")
+        plain = re.sub(r"^export (?=(?:async )?(?:const|let|function|class) )", "", IMPORT.sub("", text), flags=re.M)
+        if re.search(r"^(import|export)\b", plain, re.M):
+            raise Stopped(f"{path} imports or exports in a way that isn't known here")
+        made.append(plain)
+    return "\n" + "\n".join(made)
+
+
 def script():
-    """The modules of the script in one, without their imports; no two of them declare one name."""
-    texts = [(WEB / name).read_text() for name in SCRIPTS]
-    names = [name for text in texts for name in declared(text)]
-    twice = {name for name in names if names.count(name) > 1}
-    if twice:
-        raise Stopped(f"names that two modules of the page declare: {', '.join(sorted(twice))}")
-    plain = [re.sub(r"^import [^;]*;\n", "", text, flags=re.M) for text in texts]
-    return "\n" + "\n".join(re.sub(r"^export ", "", text, flags=re.M) for text in plain)
+    """The modules of the page in one."""
+    return join_modules({name: (WEB / name).read_text() for name in SCRIPTS})
 
 
 def examples():
@@ -240,6 +251,9 @@ def build(words):
 
 
 def main():
+    if sys.argv[1:] == ["--help"]:
+        print(Path(__file__).name, __doc__)
+        return 0
     try:
         return build(sys.argv[1:])
     except Stopped as why:

@@ -27,7 +27,10 @@ const FIRST_ROOM = 1024;
 export class Rejected extends Error {
     constructor(number, name, fields) {
         super([...(number === undefined ? [] : [number]), name, ...fields].join(" "));
-        Object.assign(this, { name: "Rejected", number, reason: name, fields });
+        this.name = "Rejected";
+        this.number = number;
+        this.reason = name;
+        this.fields = fields;
     }
 }
 
@@ -35,7 +38,9 @@ export class Rejected extends Error {
 export class BadAnchors extends Error {
     constructor(line, file = "anchors") {
         super(file === "anchors" ? `line ${line}` : `${file} line ${line}`);
-        Object.assign(this, { name: "BadAnchors", line, file });
+        this.name = "BadAnchors";
+        this.line = line;
+        this.file = file;
     }
 }
 
@@ -43,7 +48,9 @@ export class BadAnchors extends Error {
 export class BadFile extends Error {
     constructor(file, place) {
         super(`${file} byte ${place}`);
-        Object.assign(this, { name: "BadFile", file, place });
+        this.name = "BadFile";
+        this.file = file;
+        this.place = place;
     }
 }
 
@@ -194,7 +201,7 @@ export function reportOf(answer) {
 }
 
 /** The bytes of hexadecimal digits; `-` stands for none. */
-const unhexed = (word) => Uint8Array.from(word === "-" ? [] : word.match(/../g), (pair) => parseInt(pair, 16));
+const unhexed = (word) => Uint8Array.from(word === "-" ? [] : word.match(/../g), (/** @type {string} */ pair) => parseInt(pair, 16));
 
 /** How each line of a report is read, by its first word: what it adds to the report. */
 const LINES = {

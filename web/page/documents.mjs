@@ -7,7 +7,7 @@ const ESCAPES = { "\\\\": "\\", "\\n": "\n", "\\r": "\r" };
 
 const hexOfBytes = (bytes) => Array.from(bytes, (it) => it.toString(16).padStart(2, "0")).join("");
 const latin = (bytes) => Array.from(bytes, (byte) => String.fromCharCode(byte)).join("");
-const asBytes = (letters) => Uint8Array.from(letters, (letter) => letter.charCodeAt(0));
+const asBytes = (/** @type {string} */ letters) => Uint8Array.from(letters, (letter) => letter.charCodeAt(0));
 
 /**
  * What an event tells of a file, as sha256sum writes it: {digest, path, name}, the path as bytes, the name, without the folders above it, as a text of a letter for
@@ -53,7 +53,7 @@ export const MOST_AT_ONCE = 2 ** 29;
 const PIECE = 2 ** 22;
 
 /** The SHA-256 digest of a blob, and who computed it: {digest, by}. `onPiece` is given how many bytes were read. Fails where the blob can't be read. */
-export async function digestOfBlob(blob, onPiece = () => {}, subtle = globalThis.crypto?.subtle, most = MOST_AT_ONCE) {
+export async function digestOfBlob(blob, onPiece = (_) => {}, subtle = globalThis.crypto?.subtle, most = MOST_AT_ONCE) {
     if (subtle && blob.size <= most) return { digest: hexOfBytes(new Uint8Array(await subtle.digest("SHA-256", await blob.arrayBuffer()))), by: "the browser" };
     const sum = new Sha256();
     for (let at = 0; at < blob.size; at += PIECE) {

@@ -1,7 +1,7 @@
 /** What a file is, by its first bytes. */
 
 /**
- * The files of Timeweave: the letters that they begin with, the byte behind them where it tells a kind, and what this page says of one that it
+ * The files of Timeweave, and zip files, as bundles are: the letters that they begin with, the byte behind them where it tells a kind, and what this page says of one that it
  * doesn't judge.
  */
 const KINDS = [
@@ -13,6 +13,7 @@ const KINDS = [
     { kind: "receipt", letters: "TWR1", says: "This is a receipt, which shows nothing by itself: `timeweave prove DIR thread` writes the proof." },
     { kind: "events", letters: "TWE1", says: "This is a file of events that are to be recorded, and no proof: `timeweave append` takes it." },
     { kind: "history", letters: "TWH1" },
+    { kind: "bundle", letters: "PK\u0003\u0004" },
 ];
 
 const lettersOf = (bytes) => String.fromCharCode(...bytes.subarray(0, 4));

@@ -140,7 +140,7 @@ export function chooseLines(judge, pick) {
         const answer = judge(anchorsText(anchors)), asked = askedFor(answer.text);
         if (!asked) return { answer, anchors };
         const other = anchors.find(({ service }) => service === asked.service);
-        const { line, lacks } = other ? { lacks: { other: other.step } } : pick(asked);
+        const { line, lacks } = other ? { line: undefined, lacks: { other: other.step } } : pick(asked);
         if (!line) {
             const others = other ? [] : furtherMissing(judge, pick, anchors, asked);
             return { answer, anchors, missing: { ...asked, ...lacks, ...(others.length ? { others } : {}) } };

@@ -187,6 +187,6 @@ export function shownBy(bytes) {
 
 /** The proof that a line is of the history of a passed step, by its path. */
 export function linkTo({ front, path }, { authenticator }) {
-    const digest = Uint8Array.from(authenticator.match(/../g), (digits) => parseInt(digits, 16));
+    const digest = Uint8Array.from(authenticator.match(/../g), (/** @type {string} */ digits) => parseInt(digits, 16));
     return Uint8Array.from([...new TextEncoder().encode("TWP1\u0005"), ...front, ...digest, ...path]);
 }

@@ -7,6 +7,7 @@ import { boldItems, conflictArticle, contradictionAlerts, digestRows, element, h
 import { fill } from "./words.mjs";
 
 const at = (id) => document.getElementById(id);
+const fieldAt = (id) => /** @type {HTMLInputElement} */ (at(id));
 const bytesOfBase64 = (text) => Uint8Array.from(atob(text), (it) => it.charCodeAt(0));
 const settled = () => new Promise((done) => setTimeout(done));
 
@@ -55,7 +56,7 @@ function count(file, line) {
 
 /** Puts a file into another field. */
 async function move(file, place) {
-    const moved = readFile({ ...file, place });
+    const moved = file.size > file.bytes.length ? await takeFile(file.blob, file.name, place) : readFile({ ...file, place });
     own.remove(file);
     own.add(moved);
     at(`${place}-files`).focus();
@@ -156,21 +157,21 @@ async function takeAll(files, place) {
 }
 
 function takeTyped() {
-    const text = at("typed").value, source = at("typed-from").value.trim(), bytes = new TextEncoder().encode(text);
+    const text = fieldAt("typed").value, source = fieldAt("typed-from").value.trim(), bytes = new TextEncoder().encode(text);
     if (!text.trim()) return at("typed").focus();
     const from = source ? `typed, ${source}` : "typed";
     const file = readFile({ name: "typed lines", size: bytes.length, blob: new Blob([bytes]), bytes, place: OWN, source: from });
     session = own;
     own.add(file);
-    if (file.lines.length && !file.bad.length) at("typed").value = "";
+    if (file.lines.length && !file.bad.length) fieldAt("typed").value = "";
     show();
 }
 
 function watchField(id, place) {
-    const field = at(id);
-    at(`${id}-files`).addEventListener("change", (event) => {
-        take(event.target.files, place);
-        event.target.value = "";
+    const field = at(id), chosen = fieldAt(`${id}-files`);
+    chosen.addEventListener("change", () => {
+        take(chosen.files, place);
+        chosen.value = "";
     });
     field.addEventListener("dragover", () => field.classList.add("over"));
     for (const name of ["dragleave", "drop"]) field.addEventListener(name, () => field.classList.remove("over"));
@@ -182,7 +183,7 @@ function watchDocument() {
     document.addEventListener("dragover", (event) => event.preventDefault());
     document.addEventListener("drop", (event) => {
         event.preventDefault();
-        if (event.target.closest?.(".field")) return;
+        if (/** @type {Element} */ (event.target).closest?.(".field")) return;
         at("progress").textContent = "Drop the files on one of the three fields: what you were sent, lines that you got another way, or the document itself.";
     });
     let width = room();

@@ -1,6 +1,7 @@
 /** The files and lines that are held, what the user chose, and what the verifier says of each proof. */
 
 import { ACCEPTED, MOST_BYTES, REJECTED, readBounds, readContradiction, readFork, readReport } from "../timeweave.mjs";
+import { MOST_BUNDLE, meetLines, openBundle } from "./bundles.mjs";
 import { matchFile, readRecorded, wholeDigest } from "./documents.mjs";
 import { isLink, kindOf, mapOf } from "./files.mjs";
 import { findSlip } from "./letters.mjs";
@@ -16,13 +17,13 @@ export const DOCUMENT = "document";
 const LINE_END = 10;
 
 /** What was read of a file: {name, size, blob, bytes, place}, its kind, its lines, and what the page says of it beside that. */
-export function readFile({ name, size, blob, bytes, place, source }) {
+export function readFile({ name, size, blob, bytes, place, source = undefined }) {
     const known = kindOf(bytes), isCut = size > bytes.length, file = { name, size, blob, bytes, place, source, lines: [], bad: [], notes: [] };
     if (place === DOCUMENT) return Object.assign(file, { kind: "document", ...strangeDocument(known, bytes, isCut) });
     if (known) {
         if (place === OWN) file.notes.push("This is no file of lines, so it was put among what you were sent.");
         if (known.says) file.notes.push(known.says);
-        return Object.assign(file, { kind: known.kind, place: SENT });
+        return Object.assign(file, { kind: known.kind, place: SENT, ...(known.kind === "bundle" ? openFile(file) : {}) });
     }
     const read = readLines(isCut ? bytes.subarray(0, bytes.lastIndexOf(LINE_END) + 1) : bytes), { bad } = read;
     const { lines, found } = place === SENT ? { lines: [...read.lines, ...read.found], found: [] } : read;
@@ -35,17 +36,28 @@ export function readFile({ name, size, blob, bytes, place, source }) {
     return Object.assign(file, { kind: "lines", bad, lines: lines.map(withFrom), found: found.map(withFrom), belongs });
 }
 
+/** What a bundle has: its proof, of map files both, as files, its records as documents, and its lines, which are the sender's. What can't be opened may be the document. */
+function openFile({ name, size, bytes }) {
+    const opened = openBundle(bytes, size), from = { name, isSender: true }, by = "this page's script";
+    if (opened.fault) return { opened, belongs: DOCUMENT };
+    const proofs = opened.proofs.map((it) => ({ name, size: it.length, bytes: it.subarray(0, MOST_BYTES), kind: kindOf(it)?.kind, place: SENT }));
+    const records = opened.records.map((it) => ({ ...it, size: it.bytes.length, place: DOCUMENT, digest: wholeDigest(it.bytes), by }));
+    return { opened: { ...opened, proofs, records }, lines: opened.lines.map((line) => ({ ...line, from })) };
+}
+
 /** What is told of a document that would be something else in another field, and which one that is. */
 function strangeDocument(known, bytes, isCut) {
+    if (known?.kind === "bundle" && (isCut || openBundle(bytes, bytes.length).fault)) return {};
     if (known) return { belongs: SENT, notes: ["It is a file of Timeweave itself. Is it a proof that you were sent?"] };
     const { lines, bad } = isCut ? { lines: [], bad: [] } : readLines(bytes);
     return lines.length && !bad.length ? { belongs: OWN, notes: ["It is a file of lines. Did you get them another way?"] } : {};
 }
 
-/** Reads the front of a file: no proof and no good file of lines is longer than that. */
+/** Reads the front of a file: no proof and no good file of lines is longer than that. A bundle is read whole, as far as one may be long. */
 export async function takeFile(blob, name, place) {
-    const bytes = new Uint8Array(await blob.slice(0, MOST_BYTES).arrayBuffer());
-    return readFile({ name, size: blob.size, blob, bytes, place });
+    const bytesUpTo = async (most) => new Uint8Array(await blob.slice(0, most).arrayBuffer()), front = await bytesUpTo(MOST_BYTES);
+    const isWhole = place !== DOCUMENT && blob.size > MOST_BYTES && blob.size <= MOST_BUNDLE && kindOf(front)?.kind === "bundle";
+    return readFile({ name, size: blob.size, blob, bytes: isWhole ? await bytesUpTo(MOST_BUNDLE) : front, place });
 }
 
 /** What a document is to the events of an accepted report: as matchFile says, or `unread` where its digest isn't known. */
@@ -53,12 +65,15 @@ export function documentBeside({ events }, { name, digest, fault }) {
     return fault ? { match: "unread", places: [] } : matchFile(events.map(({ data }) => readRecorded(data)), digest, name, events.map(({ data }) => wholeDigest(data)));
 }
 
-const isThatFile = ({ match }) => match === "same" || match === "renamed";
+export const isThatFile = ({ match }) => match === "same" || match === "renamed";
 
 /** What the documents are to a judgement of a proof of events, each {document, match, places}; of another one none. */
 export function besideDocuments({ report, documents = [] }) {
     return report?.events.length ? documents.map((document) => ({ document, ...documentBeside(report, document) })) : [];
 }
+
+/** What the records of a bundle are to a judgement of a proof of events, the same. */
+export const besideRecords = ({ report, bundle }) => besideDocuments({ report, documents: bundle?.opened.records });
 
 /** Those of them whose file was recorded; none where it isn't any of them. */
 export const filesRecorded = (judged) => besideDocuments(judged).filter(isThatFile);
@@ -78,20 +93,41 @@ const READ = {
     timeweave_checkfork: (text) => reportWith("fork", { fork: readFork(text) }),
 };
 
+/** What the verifier says of bytes that are no proof: from where on none goes on. */
+const MALFORMED = /^rejected 1 Malformed (\d+)\n$/;
+
 /** The proofs in evidence of a fork: each ends where the verifier says that no proof goes on. */
 function proofsIn(timeweave, evidence) {
     const found = [];
     for (let rest = evidence.subarray(4); found.length < 2; rest = rest.subarray(found.at(-1).length)) {
-        const end = /^rejected 1 Malformed (\d+)\n$/.exec(timeweave.judge(rest, "").text);
+        const end = MALFORMED.exec(timeweave.judge(rest, "").text);
         found.push(rest.subarray(0, end ? Number(end[1]) : rest.length));
     }
     return found;
 }
 
-/** The answer for evidence, or that for one of its proofs where it asks for a line: of evidence the verifier doesn't say which line it lacks. */
+/** The functions of the verifier that judge what a bundle has. */
+const CALL_OF = { proof: "timeweave_verify", evidence: "timeweave_checkfork", map: "timeweave_checkmap" };
+
+/** What is judged of a bundle: its proof, of map files both; of one that can't be opened nothing. */
+function subjectOf(file) {
+    const { fault, proofs } = file.opened, kind = proofs?.[0].kind, call = CALL_OF[kind];
+    if (fault) return { isUnopened: true, files: [file] };
+    const how = call ? { call, isAlone: kind === "map" && proofs.length === 1 } : kind === "history" ? { isHistory: true } : { isUnknown: true };
+    return { ...how, bundle: file, files: proofs };
+}
+
+/**
+ * The answer for evidence, or that for one of its proofs where it asks for a line: of evidence the verifier doesn't say which line it lacks. Where one of them is no
+ * proof, no line would help.
+ */
 function judgeEvidence(timeweave, evidence) {
     const proofs = proofsIn(timeweave, evidence);
-    return (anchors) => proofs.map((proof) => timeweave.judge(proof, anchors)).find(({ text }) => askedFor(text)) ?? timeweave.ask("timeweave_checkfork", evidence, anchors);
+    return (anchors) => {
+        const told = proofs.map((proof) => timeweave.judge(proof, anchors));
+        const asked = told.some(({ text }) => MALFORMED.test(text)) ? undefined : told.find(({ text }) => askedFor(text));
+        return asked ?? timeweave.ask("timeweave_checkfork", evidence, anchors);
+    };
 }
 
 /** The lines of yours that a proof carries, and its report without these: each of them binds its hop as any other line does. */
@@ -138,23 +174,24 @@ export function lineUnder({ carried }, anchors, { service }) {
 
 /**
  * The lines of yours of a step of which the report tells no authenticator: `others`, which aren't those that the files have, or of which the verifier says that
- * they aren't of the history of a step that is passed, each with the one of yours under which that is so, where there is one; and `unheld`, of which that isn't known.
+ * they aren't of the history of a step that is passed, each with the one of yours under which that is so, where there is one; and `unheld`, of which that isn't known. Of a
+ * line under which a file is accepted another one may be told all the same, by a tree of another service.
  */
 function linesBeside(timeweave, report, { told, passed }, { own, anchors }) {
-    const known = [...anchors, ...toldLines(report)], shown = [...told, ...passed, ...report.events, ...report.hops];
+    const known = toldLines(report), isAnchor = (line) => anchors.some((it) => areOfOneStep(it, line)), shown = [...told, ...passed, ...report.events, ...report.hops];
     const isTold = (line) => (report.map !== undefined && isOfMap(report.map, line)) || (report.fork !== undefined && isThird(report.fork, line));
     const isShown = (line) => isTold(line) || shown.some((it) => areOfOneStep(it, line));
     const beside = own.filter((line) => isShown(line) && !known.some((it) => areOfOneStep(it, line)));
     const textOf = ({ under }) => anchorsText(under ? [under] : anchors);
     const answersTo = (line) => [
         ...told.filter((it) => areOfOneStep(it, line)).map(({ authenticator, isReceived }) => ({ status: authenticator === line.authenticator ? ACCEPTED : REJECTED, isReceived })),
-        ...passed.filter((it) => areOfOneStep(it, line)).map((it) => ({ status: timeweave.judge(linkTo(it, line), textOf(it)).status })),
+        ...passed.filter((it) => areOfOneStep(it, line) && !isAnchor(line)).map((it) => ({ status: timeweave.judge(linkTo(it, line), textOf(it)).status })),
     ];
     const answers = beside.map(answersTo), isOther = (_, at) => answers[at].some(({ status }) => status === REJECTED);
     const isHeld = (_, at) => answers[at].length > 0 && answers[at].every(({ status }) => status === ACCEPTED);
     const isOfPath = (at) => answers[at].some(({ status, isReceived }) => status === REJECTED && !isReceived);
     const others = beside.map((line, at) => ({ ...line, ...(isOfPath(at) ? { under: lineUnder(report, anchors, line) } : {}) }));
-    return { others: others.filter(isOther), unheld: beside.filter((line, at) => !isOther(line, at) && !isHeld(line, at)) };
+    return { others: others.filter(isOther), unheld: beside.filter((line, at) => !isOther(line, at) && !isHeld(line, at) && !isAnchor(line)) };
 }
 
 /** How a digest may have been meant that was typed wrong: with another digit at one place, or with two neighbours the other way round. */
@@ -206,6 +243,8 @@ function twoHistories(timeweave, accepted, told) {
 
 /** What is held at one time. An example is one of its own, so that its files never mix with a user's. */
 export class Session {
+    /** What an example is called. */
+    title = "";
     files = [];
     /** The sender's lines that count, as "NAME STEP AUTHENTICATOR". */
     counted = new Set();
@@ -234,7 +273,12 @@ export class Session {
 
     ofKind = (kind) => this.files.filter((file) => file.kind === kind);
 
-    /** What is judged: {call, files}, of proofs, of evidence, and of each low and high map file that belong together; one without another is alone. And what no function judges. */
+    /** The proofs that were sent, in bundles too. */
+    get proofs() {
+        return [...this.ofKind("proof"), ...this.ofKind("bundle").flatMap(({ opened }) => opened.proofs ?? []).filter(({ kind }) => kind === "proof")];
+    }
+
+    /** What is judged: {call, files}, of proofs, of evidence, of each low and high map file that belong together, one without another alone, and of bundles. And what no function judges. */
     get subjects() {
         const maps = this.ofKind("map").map((file) => ({ file, of: mapOf(file.bytes) })), pairs = [];
         const isOther = (a, b) => !b.of.isLow && a.of.service === b.of.service && a.of.step === b.of.step && a.of.peer === b.of.peer;
@@ -245,6 +289,7 @@ export class Session {
             ...pairs.map((files) => ({ call: "timeweave_checkmap", files })),
             ...alone.map((file) => ({ call: "timeweave_checkmap", files: [file], isAlone: true })),
             ...this.ofKind("evidence").map((file) => ({ call: "timeweave_checkfork", files: [file] })),
+            ...this.ofKind("bundle").map(subjectOf),
             ...this.ofKind("history").map((file) => ({ isHistory: true, files: [file] })),
             ...this.ofKind("unknown").map((file) => ({ isUnknown: true, files: [file] })),
         ];
@@ -258,11 +303,12 @@ export class Session {
 
     /**
      * What the verifier says of a subject: {answer, anchors}, `report` where it is accepted and `strict` of a proof, `missing` where a line is,
-     * `lacks` where the module has no such function, or the `fault` of a trap. Where a file contradicts itself, `refuted` in the place of a report.
+     * `lacks` where the module has no such function, or the `fault` of a trap. Where a file contradicts itself, `refuted` in the place of a report. Of a bundle what `met` its lines.
      */
     judge(timeweave, subject) {
         const { call, files } = subject, own = this.linesAt(OWN), judged = { ...subject, file: files[0], own: linesThatCount(own, this.chosen), anchors: [], documents: this.ofKind("document") };
-        if (subject.isUnknown || subject.isHistory) return judged;
+        if (subject.bundle) judged.met = meetLines(subject.bundle.lines, judged.own);
+        if (subject.isUnopened || subject.isUnknown || subject.isHistory) return judged;
         if (!timeweave.has(call)) return { ...judged, lacks: true };
         if (subject.isAlone) return judged;
         const pick = pickBy({ own, sent: this.linesAt(SENT), counted: this.counted, chosen: this.chosen }), bytes = files.map((file) => file.bytes);
@@ -326,7 +372,7 @@ export class Session {
     brokenRules(timeweave, judgements) {
         if (!timeweave.has("timeweave_contradict")) return [];
         const found = [], each = this.onReceiving(judgements).slice(0, MOST_COMPARED);
-        const links = this.ofKind("proof").map(({ bytes }) => bytes).filter(isLink);
+        const links = this.proofs.map(({ bytes }) => bytes).filter(isLink);
         for (const [at, first] of each.entries()) {
             for (const second of each.slice(at + 1)) {
                 const told = this.contradiction(timeweave, first, second, links);

@@ -5,10 +5,10 @@ import { mapOf, sizeText } from "./files.mjs";
 import { inGroups } from "./letters.mjs";
 import { heldAs } from "./lines.mjs";
 import { asLines, asList, drawing, isShownAsLines, legendOf, pointWords } from "./picture.mjs";
-import { DOCUMENT, OWN, SENT, besideDocuments, filesRecorded, lineUnder } from "./session.mjs";
+import { DOCUMENT, OWN, SENT, besideDocuments, besideRecords, filesRecorded, isThatFile, lineUnder } from "./session.mjs";
 import {
-    Foreign, Sentence, TOO_MANY_LINES, WITHOUT_MEMORY, aloneWords, askForLinks, boundSentence, conflictWords, documentWords, escaped, eventWords, faultWords, forkNotes, headline, hexOf, historyWords, lacksWords, mapNotes,
-    mapReasonWords, missingWords, otherFileWords, otherHistoryWords, otherLineWords, reasonWords, refutedWords, said, shownLineNotes, shownSentence, shownText, signedWords, slipHeldWords, slipWords, timeNotes, typedWords, strayWords, toldLines, twoLinesWords, uncomparedWords, undocumentedWords, unheldWords, unknownWords, wordNotes, heldNotes,
+    Foreign, Sentence, TOO_MANY_LINES, WITHOUT_MEMORY, aloneWords, askForLinks, boundSentence, bundleNotes, conflictWords, documentWords, elseWords, escaped, eventWords, faultWords, forkNotes, headline, hexOf, historyWords, lacksWords, mapNotes,
+    mapReasonWords, missingWords, otherBundledWords, otherFileWords, otherHistoryWords, otherLineWords, reasonWords, recordsWithoutEvent, refutedWords, said, shownLineNotes, shownSentence, shownText, signedWords, slipHeldWords, slipWords, timeNotes, typedWords, strayWords, toldLines, twoLinesWords, uncomparedWords, undocumentedWords, unopenedWords, unheldWords, unknownWords, wordNotes, heldNotes,
     fill,
 } from "./words.mjs";
 
@@ -54,6 +54,7 @@ const KIND_WORDS = {
 const MOVES = { [SENT]: "Put it among what you were sent", [OWN]: "You got them another way", [DOCUMENT]: "It is the document" };
 
 function fileWords(file) {
+    if (file.kind === "bundle") return file.opened.fault ? "no bundle of Timeweave" : "bundle, judged below";
     return file.kind === "lines" ? `${number(file.lines.length)} line${file.lines.length === 1 ? "" : "s"}` : KIND_WORDS[file.kind];
 }
 
@@ -87,7 +88,7 @@ export function heldFiles(session, place, onRemove, onMove, onFound) {
         const notes = file.notes.map((note) => paragraph("problem", note));
         const move = onMove && file.belongs ? paragraph("", button(MOVES[file.belongs], () => onMove(file, file.belongs), `${MOVES[file.belongs]}: ${file.name}`)) : null;
         const by = file.kind === "document" && file.digest ? paragraph("soft", "SHA-256 ", element("code", {}, file.digest), `, computed by ${file.by}`) : null;
-        return element("li", {}, row, ...notes, ...badLines(file), ...foundLines(file, onFound && ((line) => onFound(file, line))), file.kind === "lines" && place === SENT ? sendersLines(file) : null, by, move);
+        return element("li", {}, row, ...notes, ...badLines(file), ...foundLines(file, onFound && ((line) => onFound(file, line))), (file.kind === "lines" || file.lines.length) && place === SENT ? sendersLines(file) : null, by, move);
     }))];
 }
 
@@ -127,21 +128,30 @@ const MARKS = { yes: "✔", partly: "◐", no: "✘", open: "?" };
 
 /** What is told of a judgement first: the look, the title, the sentence, and what to do. What is shown of events is so of the documents too, or isn't called shown. */
 export function headOf(judged) {
-    const head = verdictHead(judged), beside = besideDocuments(judged), isShown = head.look === "yes" || head.look === "partly";
+    const head = bundledHead(judged), records = besideRecords(judged), beside = besideDocuments(judged), isShown = head.look === "yes" || head.look === "partly";
+    if (isShown && isWithoutEvent(judged)) return { look: "open", title: headline("NOT_JUDGED"), ...recordsWithoutEvent(judged) };
+    if (isShown && !records.every(isThatFile)) return otherFileWords(judged.report, records.filter((it) => !isThatFile(it)));
     if (isShown && beside.length && !filesRecorded(judged).length) return otherFileWords(judged.report, beside);
-    const { aside, first } = (isShown && undocumentedWords(judged)) || {};
+    const { aside, first } = (isShown && !records.length && undocumentedWords(judged)) || {};
     return first ? { ...head, first, title: head.title === headline("SHOWN") ? headline("SHOWN", aside) : head.title } : head;
 }
 
-/** The same without the documents. */
+/** Whether a bundle has a record, and in the place of a proof of an event another one, with which it can't be compared. */
+const isWithoutEvent = ({ report, bundle }) => bundle?.opened.records.length > 0 && !report.events.length;
+
+/** The same without the documents, of a bundle beside its lines. */
+const bundledHead = (judged) => otherBundledWords(judged, verdictHead(judged));
+
+/** The same of a file, or of the proof of a bundle, by itself. */
 function verdictHead(judged) {
     const { call, answer, missing, report, anchors, file, own, fault, refuted } = judged, open = { look: "open", title: headline("NOT_JUDGED") };
-    if (judged.isUnknown) return { ...open, ...unknownWords(file) };
+    if (judged.isUnopened) return { ...open, ...unopenedWords(file) };
+    if (judged.isUnknown) return { ...open, ...unknownWords(file, judged.bundle) };
     if (judged.isHistory) return { ...open, ...historyWords(file) };
     if (judged.lacks) return { ...open, ...lacksWords(call) };
     if (judged.isAlone) return { ...open, ...aloneWords(mapOf(file.bytes)) };
     if (fault) return { ...open, ...faultWords(fault) };
-    if (missing) return { ...open, ...missingWords(missing, own) };
+    if (missing) return { ...open, ...withElse(missingWords(missing, own), elseWords(judged)) };
     if (answer.status === NO_MEMORY) return { ...open, ...WITHOUT_MEMORY };
     if (answer.status === BAD_ANCHORS && answer.text.startsWith("unreadable anchors")) return { ...open, ...TOO_MANY_LINES };
     const why = call === "timeweave_checkmap" ? mapReasonWords : reasonWords;
@@ -149,7 +159,7 @@ function verdictHead(judged) {
     if (answer.status !== ACCEPTED) return { look: "no", title: headline("NOT_SHOWN"), ...why(answer.text) };
     if (refuted) return { look: "no", title: headline("NOT_SHOWN", "it contradicts itself"), ...refutedWords(refuted) };
     const other = toldLines(report).find((line) => heldAs(line, own) === "another one");
-    const { aside, ...words } = other ? otherLineWords(other, own, report.link && lineUnder(report, anchors, other)) : {};
+    const { aside, ...words } = other ? otherLineWords(other, own, report.link && lineUnder(report, anchors, other)) : { aside: undefined };
     if (other) return { look: "no", title: headline("NOT_SHOWN", aside), ...words };
     if (judged.others?.length) return { look: "no", ...otherHistoryWords(judged.others[0]) };
     const sentence = shownSentence(report), isSenders = anchors.some(({ from }) => from.isSender);
@@ -160,15 +170,19 @@ function verdictHead(judged) {
     return { look: "yes", title: headline("SHOWN"), sentence };
 }
 
+const withElse = (words, more) => ({ ...words, todo: `${words.todo}${more}` });
+
 const section = (title, ...inside) => (inside.length ? [element("h4", {}, title), ...inside] : []);
 const notes = (texts) => (texts.length ? [element("ul", { className: "notes" }, ...texts.map((text) => element("li", {}, text)))] : []);
 
 /** What is told of the documents: those whose file was recorded, else what was; and that a proof of no event is held against none. */
 function documentNotes(judged) {
-    const { report, documents = [] } = judged, found = filesRecorded(judged);
-    if (!documents.length || verdictHead(judged).look === "no") return [];
-    if (!report.events.length) return documents.map(({ name }) => fill("no event", { file: new Foreign(name) }));
-    return found.length ? found.map((it) => documentWords(report, it)) : [shownSentence(report)];
+    const { report, documents = [], bundle } = judged, all = [...documents, ...(bundle?.opened.records ?? [])];
+    if (!all.length || bundledHead(judged).look === "no") return [];
+    if (isWithoutEvent(judged)) return [shownSentence(report)];
+    if (!report.events.length) return all.map(({ name }) => fill("no event", { file: new Foreign(name) }));
+    const found = filesRecorded(judged), records = besideRecords(judged), isOther = !records.every(isThatFile) || (documents.length > 0 && !found.length);
+    return isOther ? [shownSentence(report)] : [...records, ...found].map((it) => documentWords(report, it));
 }
 
 function notesOf(judged) {
@@ -220,7 +234,7 @@ const TITLE_COUNTS = "What counts is the title above. “accepted” and “reje
     + "the document, and rejects where a line is missing too. Its strict form rejects what rests on somebody's word.";
 
 /** The exact texts of the verifier, and of its strict form, for other tools: folded until they are wanted, and on paper as they are. */
-function exactTexts({ answer, strict }) {
+function exactTexts({ answer, strict = undefined }) {
     if (!answer) return [];
     const isOne = !strict || strict.text === answer.text;
     const own = section(`Exact text of the verifier${strict && isOne ? ", and of its strict form" : ""}`, element("pre", {}, answer.text));
@@ -278,11 +292,12 @@ export function verdictArticle(judged, { room, onCount }) {
     return element("article", { className: `verdict ${look}` },
         element("header", {},
             element("h3", {}, element("span", { ariaHidden: "true" }, `${MARKS[look]} `), title),
-            element("p", {}, ...namesOf(judged.files))),
+            element("p", {}, ...namesOf(judged.bundle ? [judged.bundle] : judged.files))),
         first ? element("p", { className: "first" }, first) : null,
         element("p", { className: "sentence" }, sentence),
         apart ? element("pre", { className: "apart" }, apart) : null,
         ...(lines?.length ? [contradictingLines(lines)] : []),
+        ...notes(bundleNotes(judged)),
         ...(look === "partly" ? [] : whatToDo),
         ...offeredLines(judged, onCount),
         ...(report ? notes(notesOf(judged)) : []),
@@ -296,7 +311,7 @@ export function verdictArticle(judged, { room, onCount }) {
 /** What is said of all verdicts to those who don't see them. */
 export function summaryWords(judgements, conflicts = [], uncompared = 0, stray = []) {
     const told = judgements.map((judged) => [headOf(judged), judged.file]).map(([{ title, first, sentence }, { name }]) => said`${title}: ${first ? said`${first} ` : ""}${sentence} (File ${new Foreign(name)}.)`);
-    const both = ({ first, second, ...it }) => said`Two files contradict each other: ${bothWords(it).sentence} (Files ${new Foreign(first.name)} and ${new Foreign(second.name)}.)`;
+    const both = ({ first, second, two, told }) => said`Two files contradict each other: ${bothWords({ two, told }).sentence} (Files ${new Foreign(first.name)} and ${new Foreign(second.name)}.)`;
     return [...told, ...conflicts.map(both), ...(uncompared ? [uncomparedWords(uncompared)] : []), ...stray.map((it) => said`${strayWords(it).title}: ${strayWords(it).sentence}`)].join(" ");
 }
 
@@ -305,11 +320,15 @@ export function summaryWords(judgements, conflicts = [], uncompared = 0, stray =
 /** How a file's name is typed in a command. */
 const typed = (name) => (/^[\w./+=@%-]+$/.test(name) ? name : `'${name.replaceAll("'", `'\\''`)}'`);
 
-/** The commands that judge the same once more by other tools, and the lines that they take; of files that weren't judged none. */
-function againOf({ call, files, answer, anchors }) {
+/** Where the proof of a bundle stands once it was taken out, and of map files the second one. */
+const BUNDLED = ["opened/proof", "opened/proof-2"];
+
+/** The commands that judge the same once more by other tools, of a bundle its proof, and the lines that they take; of files that weren't judged none. */
+function againOf({ call, files, answer, anchors, bundle }) {
     if (!answer || !call) return { commands: [], lines: [] };
-    const words = `${call.replace("timeweave_", "")} ${files.map(({ name }) => typed(name)).join(" ")} LINES`;
-    return { commands: [`timeweave ${words}`, `python3 reference/timeweave_reference ${words}`], lines: anchors.map(lineText) };
+    const opened = bundle ? [`unzip -n ${typed(bundle.name)} -d opened`] : [], names = bundle ? BUNDLED.slice(0, files.length).join(" ") : files.map(({ name }) => typed(name)).join(" ");
+    const words = `${call.replace("timeweave_", "")} ${names} LINES`;
+    return { commands: [...opened, `timeweave ${words}`, `python3 reference/timeweave_reference ${words}`], lines: anchors.map(lineText) };
 }
 
 /** When it was judged, and how it is judged once more: for a sheet on paper. */

@@ -1,5 +1,6 @@
 /** What the page says: sentences, made of the proved text and of the lines that count alone. Those on answers are weft's own, of one source. */
 
+import { MOST_NUMBER } from "./bundles.mjs";
 import { isNamed, readRecorded } from "./documents.mjs";
 import { findSlip } from "./letters.mjs";
 import { heldAs } from "./lines.mjs";
@@ -265,7 +266,7 @@ export function otherHistoryWords({ under, ...line }, told = []) {
         title: headline("NOT_SHOWN", asideOf(under)),
         sentence: under ? `${fill("own lines told", { service, step, other: under.step })} ${twoHistories}` : `The line of step ${step} of ${service} that you hold isn't of the history of this file: ${twoHistories}`,
         lines: [line, ...(under ? [under] : told)],
-        todo: `${keepBoth(line)} ${fill("in doubt", { service })}`,
+        todo: `${keepBoth({ service })} ${fill("in doubt", { service })}`,
     };
 }
 
@@ -338,11 +339,56 @@ export function strayWords({ document: { name, belongs }, proofs }) {
     return { ...open, sentence: fill("without proof", { file }), todo: belongs ? "It may belong into another field: the button beside it puts it there." : "Ask whoever sent it for its proof, and put that among what you were sent." };
 }
 
-/** What is said of a file that is none of Timeweave's. */
-export const unknownWords = ({ name, size }) => ({
+/** What is said of a file that is none of Timeweave's, or of a bundle that has such a one in the place of its proof. */
+export const unknownWords = ({ name, size }, bundle) => (bundle ? { sentence: fill("no format", { file: said`The proof in ${new Foreign(name)}` }), todo: `${fill("ask for bundle")}` } : {
     sentence: size ? fill("no format", { file: new Foreign(name) }) : said`${new Foreign(name)} is empty, so nothing of it is judged.`,
     todo: size ? `${fill("is it the document")} Have you that too, press “It is the document” above. Was it a proof, it was changed on its way: ask for it packed or attached as it is.` : "Ask for it again.",
 });
+
+// ---- bundles
+
+const stepOf = ({ service, step }) => `the line of step ${step} of ${service}`;
+
+/** What is said of a bundle that can't be opened: why. */
+export function unopenedWords({ name, opened: { fault, unfit, text, number, count } }) {
+    const file = new Foreign(name), again = `${fill("ask for bundle")}`, document = `${fill("is it the document")} Have you that too, press “It is the document” above.`;
+    if (fault === "no line") return { sentence: said`Line ${number} of ${file}: ${text} is no line of a service.`, todo: again };
+    if (fault === "apart") return { sentence: said`${fill("bundle apart", { file })}.`, todo: "Ask for a bundle of each." };
+    if (fault === "many lines") return { sentence: said`${fill("bundle many lines", { file, count, most: MOST_NUMBER })}.`, todo: "Ask for one of a single proof." };
+    return { sentence: said`${fill("no bundle", { file, why: fill(`unfit ${unfit.toLowerCase()}`) })}.`, todo: `${again} ${document}` };
+}
+
+/** What is said of the lines of a bundle: what meets each that the reader didn't make count, and what stands beside them that this page doesn't check. */
+export function bundleNotes({ bundle, met, anchors }) {
+    if (!bundle) return [];
+    const isCounted = (line) => heldAs(line, anchors.filter(({ from }) => from.isSender)) === "the same";
+    const told = met.filter(({ line, met: key }) => key !== "bundle other" && !isCounted(line)).map(({ line, met: key }) => `${fill(key, line)}`);
+    const { stamped, signed } = bundle.opened;
+    return [...told, ...uncheckedWords("stamp", stamped), ...uncheckedWords("signature", signed)];
+}
+
+/** That there are stamps or signatures of these lines, and that a page checks none. */
+const uncheckedWords = (what, lines) => (lines.length ? [`It has a ${what} of ${listed(lines.map(stepOf))}. This page checks no ${what}s, so none counts here: \`weft judge BUNDLE\` checks them.`] : []);
+
+/** What else to do about lines that are missing, where a bundle has of one of them what a page doesn't check. */
+export function elseWords({ bundle, missing }) {
+    const lacking = [missing, ...(missing.others ?? [])], { stamped = [], signed = [] } = bundle?.opened ?? {};
+    const has = (lines) => lines.some((line) => lacking.some(({ service, step }) => service === line.service && step === line.step));
+    const kinds = [...(has(stamped) ? ["stamps"] : []), ...(has(signed) ? ["signatures"] : [])];
+    return kinds.length ? ` Or judge it by \`weft judge BUNDLE\`, which checks its ${listed(kinds)}.` : "";
+}
+
+/** What is said first of a bundle that has a record, and a proof of no event. */
+export const recordsWithoutEvent = ({ bundle }) => ({ sentence: fill("no event", { file: new Foreign(bundle.opened.records[0].name) }), todo: "Ask for a bundle with the proof of its event." });
+
+/** What is said first of a bundle that has another line of a step than yours, beside what is said of its proof: that isn't called shown. */
+export function otherBundledWords({ met = [], own }, head) {
+    const other = met.find((it) => it.met === "bundle other");
+    if (!other) return head;
+    const { sentence, lines, todo } = otherLineWords(other.line, own), isShown = head.look === "yes" || head.look === "partly";
+    if (isShown) return { look: "no", title: headline("NOT_SHOWN"), sentence, lines, todo };
+    return { ...head, first: sentence, lines: [...(head.lines ?? []), ...lines], todo: `${head.todo} ${todo}` };
+}
 
 /** What is said of a whole history, of which the verifier in a page judges nothing. */
 export const historyWords = ({ name }) => ({

@@ -5,6 +5,10 @@ import sys
 from pathlib import Path
 
 TOP = Path(__file__).resolve().parents[2]
+sys.path.append(str(TOP))
+
+from weft.deciding.bundles import write_bundle  # noqa: E402
+
 MARKUP = "<img src=x onerror=\"document.title='fooled'\"><script>document.title='fooled'</script>"
 MOST_HOPS = 64
 
@@ -148,6 +152,15 @@ def make_others(made):
         huge.truncate(200_000_000)
 
 
+def make_bundles(made):
+    """A record's proof with all that belongs to it in one file, with a stamp of nobody; and what is none."""
+    line, proof = made.lines["shop"].encode(), made.path("record.proof").read_bytes()
+    found = {"README.txt": b"read", "proof": proof, "lines": line, "record": b"milk", "record.name": b"milk.txt\n", "stamped-1": line, "stamp-1": b"stamp"}
+    made.put("milk.zip", write_bundle(found))
+    made.put("beer.zip", write_bundle({**found, "record": b"beer"}))
+    made.put("cut.zip", write_bundle(found)[:-1])
+
+
 def make_evidence(made):
     """A liar who keeps two histories under one name, and two services each of which received one of them; and a keeper with two histories."""
     for side, receiver in (("one", "bank"), ("other", "gazette")):
@@ -181,6 +194,7 @@ def all_made(program, folder):
     make_kinds(made)
     make_chain(made)
     make_others(made)
+    make_bundles(made)
     make_evidence(made)
     make_long(made)
     return made

@@ -94,6 +94,14 @@ test("evidence is judged under the lines that its two proofs ask for", () => {
     assert.deepEqual([anchors.length, asked.length, report.fork.first.by, report.fork.second.archived], [2, 1, "shop", 1]);
 });
 
+test("evidence of which a proof is none asks for no line", () => {
+    const session = new Session();
+    const verify = (proof) => (proof.length > 10 ? "rejected 1 Malformed 10\n" : proof[0] === 65 ? "rejected 3 NotHeld shop 2\n" : "rejected 1 Malformed 3\n");
+    session.add(held("evidence", text(`TWV1${"A".repeat(10)}${"B".repeat(10)}link`), SENT));
+    const { missing, answer } = session.judge(verifier({ verify, checkfork: () => "rejected 1 Malformed 17\n" }), session.subjects[0]);
+    assert.deepEqual([missing, answer.text], [undefined, "rejected 1 Malformed 17\n"]);
+});
+
 test("accepted files are held against each other, and a link joins their lines", () => {
     const session = new Session(), told = (kind) => `accepted ${kind}\nthread bank 9 shop 2 ${"a".repeat(64)} 3\nabsent bank 4 shop 2\n`;
     const contradict = (first, lines, second, others, link) => (link.length ? told("broken-rule") : told("broken-rule-or-fork"));
@@ -224,6 +232,21 @@ test("a line of yours of a step that map files tell of, and don't open, isn't pa
     assert.deepEqual(found(["bank 1"]), ["bank 1", "partly"]);
     assert.deepEqual(found(["shop 1"]), ["shop 1", "partly"]);
     assert.deepEqual(found(["shop 2", "bank 7"], "7"), ["shop 2", "partly"]);
+});
+
+test("of a line of yours under which map files are accepted one of them may tell another one, as received: that isn't called shown", () => {
+    const table = JSON.parse(readFileSync(new URL("../../vectors/map.json", import.meta.url))).vectors, bytesOf = (hex) => new Uint8Array(Buffer.from(hex, "hex"));
+    const titles = table.filter(({ words, status }) => words[0] === "checkmap" && status === 0).map(({ files, text: told }) => {
+        const session = new Session(), mine = bytesOf(files.anchors), lines = Buffer.from(mine).toString().trim().split("\n");
+        const checkmap = (one, other, anchors) => {
+            const missing = lines.find((line) => !`${anchors}`.includes(line));
+            return missing ? `rejected 3 NotHeld ${missing.split(" ").slice(0, 2).join(" ")}\n` : told;
+        };
+        session.add(held("mine", mine, OWN));
+        for (const side of ["low", "high"]) session.add(held(side, bytesOf(files[side]), SENT));
+        return headOf(session.judge(verifier({ checkmap, verify: () => "accepted link\n" }), session.subjects[0])).title;
+    });
+    assert.deepEqual([...new Set(titles)].sort(), ["Not shown: a line of yours contradicts the file", "Shown"]);
 });
 
 test("an accepted file that tells another line of a step than another one's path passes contradicts it", () => {

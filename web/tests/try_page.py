@@ -211,6 +211,26 @@ def shown_line_differs(page):
     page.says("That is the line of step 2 of shop that you kept")
 
 
+def bundles_opened(page):
+    """a bundle that is dropped is opened: its lines are the sender's until a line of the reader's meets one, its stamp counts nothing, its record is compared; what is none isn't
+    judged"""
+    page.fresh().drop("#sent", "milk.zip").settle(1)
+    check(page.titles() == ["? Not judged"], str(page.titles()))
+    page.says("The line of step 3 of shop in the file is the sender's alone: nothing is judged under it.", "This page checks no stamps, so none counts here: `weft judge BUNDLE` checks them.")
+    page.give("own", "shop.lines")
+    check(page.titles() == ["✔ Shown"], str(page.titles()))
+    page.says("The line of step 3 of shop in the file is the one that you kept.", "milk.txt is that file")
+    check("unzip -n milk.zip -d opened\ntimeweave verify opened/proof LINES" in page.browser.value("document.querySelector('#again').textContent"), "the sheet names other commands")
+    page.is_as_told("record.proof", page.made.lines["shop"])
+    page.fresh().give("own", "other.lines").drop("#sent", "milk.zip").settle(2)
+    check(page.titles()[0].startswith("✘ Not shown"), str(page.titles()))
+    page.says("is another one than", "The sender's line of step 3 of shop contradicts yours.", selector="main")
+    page.fresh().give("own", "shop.lines").drop("#sent", "beer.zip").settle(2)
+    check(page.titles() == ["✘ Not shown: recorded, but as no file"], str(page.titles()))
+    page.fresh().drop("#sent", "cut.zip").settle(1)
+    page.says("Not judged", "cut.zip is no bundle of weft: its end isn't that of a zip file")
+
+
 def changed_files(page):
     """changed and cut proofs are rejected with the program's text and what to do"""
     for file, lines, wanted in (
@@ -536,7 +556,7 @@ def milliseconds_to_verdict(page):
 
 
 SITUATIONS = (
-    accepted_record, files_dropped, one_by_one, all_kinds, on_a_word, senders_lines, contradicting_lines, shown_line_differs, changed_files, the_document, what_is_no_proof,
+    accepted_record, files_dropped, one_by_one, all_kinds, on_a_word, senders_lines, contradicting_lines, shown_line_differs, bundles_opened, changed_files, the_document, what_is_no_proof,
     maps_judged, evidence_judged, conflicts_told, ten_cases, large_files,
     markup_in_events, strange_names, most_hops, narrow_and_wide, examples_stay_apart, typed_lines, digests_shown, keyboard_alone, contrast, reports_printed, no_connection, first_verdict,
 )
