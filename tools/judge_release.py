@@ -376,83 +376,127 @@ def sbom_text(notice: str, version: str, commit: str, when: str) -> str:
 
 # ---- where the files of packages come from
 
-DEBIAN = {
-    "BIN": "usr/bin",
-    "LIB": "usr/lib/x86_64-linux-gnu",
-    "INCLUDE": "usr/include",
-    "MAN": "usr/share/man/man1",
-    "PYTHON": "usr/lib/python3/dist-packages",
-    "SHARE": "usr/share",
-    "OWN": "usr/share/timeweave",
-    "DOC": "usr/share/doc/timeweave",
-    "SYSTEMD": "usr/lib/systemd/system",
-    "SYSUSERS": "usr/lib/sysusers.d",
-    "ETC": "etc",
-}
-# (units and their settings are in a package alone)
-ELSEWHERE = {
-    "BIN": "bin",
-    "LIB": "lib",
-    "INCLUDE": "include",
-    "MAN": "share/man/man1",
-    "PYTHON": "share/timeweave",
-    "SHARE": "share",
-    "OWN": "share/timeweave",
-    "DOC": "share/doc/timeweave",
-}
+# What the Makefile's names of folders stand for in a package, and in the tar file.
+DEBIAN = {"PREFIX": "usr", "LIBDIR": "usr/lib/x86_64-linux-gnu", "PYTHONDIR": "usr/lib/python3/dist-packages"}
+ELSEWHERE = {"PREFIX": "", "LIBDIR": "lib", "PYTHONDIR": "share/timeweave"}
 
-# The part of tools/installed.txt that the package has alone.
-PACKED_ALONE = "service"
+# The part of the Makefile that packages have alone: units and their settings.
+PACKED_ALONE = "install-service"
 
-# What is made while it is packed, and so stands nowhere in the sources.
-MADE = (
-    "usr/share/doc/*/copyright",
-    "usr/share/doc/*/changelog.gz",
-    "usr/share/lintian/overrides/*",
-    "*/pkgconfig/timeweave.pc",
-    "*share/doc/timeweave/tables/*.md",
-)
+# What is made while it is packed, and so stands nowhere in the sources; besides what Debian's tools write of their own, which is held against what they write.
+MADE = ("*/pkgconfig/timeweave.pc", "*share/doc/timeweave/tables/*.md")
+RUN_AT_UPGRADES = "usr/share/python3/runtime.d/timeweave.rtupdate"
+
+CHANGELOG = "debian/changelog"
+
+
+def of_version(changelog: bytes, version: str) -> bytes:
+    """Debian's changelog with this version at its head."""
+    return re.sub(rb"^timeweave \([^)]*\)", f"timeweave ({version})".encode(), changelog, count=1)
+
+
+def expanded(text: str, names: Dict[str, str]) -> str:
+    """A text of the Makefile with what its names stand for; those that aren't known stand for nothing."""
+    while "$(" in text:
+        text = re.sub(r"\$\(([^()]*)\)", lambda found: names.get(found[1], ""), text)
+    return text
 
 
 def table(files: Files, folders: Dict[str, str], version: str) -> Dict[str, Optional[str]]:
-    """Where the sources' tools/installed.txt puts what: each path with the file that lies there, or None for a link."""
+    """Where the sources' `make install` puts what: each path with the file that lies there, or None for a link."""
+    text = files["Makefile"].decode()
+    names = dict(re.findall(r"^([A-Z]+) \??= (.*)$", text, re.M))
+    names.update(folders, VERSION=version, MAJOR=version.split(".")[0], DESTDIR="")
     found: Dict[str, Optional[str]] = {}
-    for line in files["tools/installed.txt"].decode().splitlines():
-        if not line.strip() or line.startswith("#"):
+    target = ""
+    for line in text.splitlines():
+        target = (re.match(r"(install[\w-]*):", line) or ["", target])[1] if not line.startswith("\t") else target
+        put, link = re.fullmatch(r"\t\$\(PUT(?:_PROGRAM)?\) (-t )?(.*)", line), re.fullmatch(r"\tln -sf \S+ (\S+)", line)
+        if not (put or link) or not target or (target == PACKED_ALONE and folders is not DEBIAN):
             continue
-        part, mode, source, place = line.split()
-        folder, _, rest = place.partition("/")
-        if (folder not in folders and folder in DEBIAN) or (part == PACKED_ALONE and folders is not DEBIAN):
-            continue
-        path = "/".join(filter(None, (folders[folder], rest))).replace("VERSION", version).replace("MAJOR", version.split(".")[0])
-        if "*" in source:
-            names = [name for name in files if name.count("/") == source.count("/") and fnmatch(name, source)]
-            found.update({f"{path}/{name.split('/')[-1]}": name for name in names})
+        words = [expanded(word, names).lstrip("/") for word in (put[2] if put else link[1] if link else "").split()]
+        if link:
+            found[words[0]] = None
+        elif put and put[1]:
+            for pattern in words[1:]:
+                listed = [name for name in files if name.count("/") == pattern.count("/") and fnmatch(name, pattern)] if "*" in pattern else [pattern]
+                found.update({f"{words[0]}/{name.split('/')[-1]}": name for name in listed})
         else:
-            found[path] = source if mode != "link" else None
+            found[words[1]] = words[0]
     return found
+
+
+def of_debian(package: str) -> Dict[str, Optional[str]]:
+    """The files that Debian's tools put into each package, with those of the sources that they are."""
+    return {
+        f"usr/share/doc/{package}/copyright": "debian/copyright",
+        f"usr/share/doc/{package}/NOTICE": "NOTICE",
+        f"usr/share/doc/{package}/changelog": CHANGELOG,
+        f"usr/share/lintian/overrides/{package}": f"debian/{package}.lintian-overrides",
+    }
 
 
 # ---- what packages say of themselves
 
-# Fields of a control file that are free; what SHLIBS of tools/packages.txt may stand for; and what a library asks for when it is installed.
-FREE = ("Source", "Architecture", "Maintainer", "Installed-Size")
-NEEDED = r"libc6 \(>= [0-9.]+\)"
-LDCONFIG = b"activate-noawait ldconfig\n"
+# What a package may need by itself: what stands for it in debian/control. (What isn't named stands for nothing.)
+NEEDED = {"${shlibs:Depends}": r"libc6 \(>= [0-9.]+\)", "${python3:Depends}": r"python3:any"}
+
+# What is told besides, and what a library asks for when it is installed.
+FREE = ("Source", "Installed-Size")
+LDCONFIG = ["activate-noawait ldconfig"]
+
+# The lines of the scripts by which Python's files are compiled, and what was compiled is taken away: no other script may be in a package.
+SCRIPTED = r"""
+#!/bin/sh
+#! /bin/sh
+# Automatically added by dh_python3
+# End automatically added section
+set -e
+if [ "$1" = rtupdate ]; then
+if command -v py3compile >/dev/null 2>&1; then
+py3compile -p NAME
+py3compile -p NAME /usr/share/timeweave
+if command -v pypy3compile >/dev/null 2>&1; then
+pypy3compile -p NAME || true
+pypy3compile -p NAME /usr/share/timeweave || true
+if command -v py3clean >/dev/null 2>&1; then
+py3clean -p NAME
+py3clean -p NAME /usr/share/timeweave
+else
+dpkg -L NAME | sed -En -e '/^(.*)\/(.+)\.py$/s,,rm "\1/__pycache__/\2".*,e'
+find /usr/lib/python3/dist-packages/ -type d -name __pycache__ -empty -print0 | xargs --null --no-run-if-empty rmdir
+fi
+""".split("\n")
 
 
 def fields_of(text: str) -> Dict[str, str]:
     """The fields of a control file; raises Bad where a line belongs to none, or one stands twice."""
-    found = re.findall(r"^([A-Za-z-]+): (.*(?:\n .*)*)\n?", text, re.M)
+    found = re.findall(r"^([A-Za-z0-9-]+): (.*(?:\n .*)*)\n?", text, re.M)
     if "".join(f"{name}: {value}\n" for name, value in found) != text or len(dict(found)) != len(found):
         raise Bad("a control file can't be read")
     return dict(found)
 
 
 def stanzas(text: str) -> List[Dict[str, str]]:
-    """The packages of tools/packages.txt, each as its fields."""
-    parts = re.sub(r"^#.*\n", "", text, flags=re.M).strip().split("\n\n")
-    return [fields_of(f"{part}\n") for part in parts]
+    """The packages of debian/control, each as the fields that its control file has to have."""
+    source, *packages = [fields_of(f"{part}\n") for part in text.strip().split("\n\n")]
+    return [{**{name: source[name] for name in ("Section", "Priority", "Maintainer")}, **package} for package in packages]
+
+
+def is_filled(text: str, wanted: str, label: str) -> bool:
+    """Whether the text of a field is that of debian/control, with what stands for the names in it."""
+    if "${" not in wanted:
+        return text == wanted
+    parts, found = wanted.split(", "), [it for it in text.split(", ") if it]
+    plain = [re.sub(r"\$\{\w+:Version\}", label, it) for it in parts if not it.endswith("Depends}")]
+    allowed = [*map(re.escape, plain), *(NEEDED[it] for it in parts if it in NEEDED)]
+    return {*plain} <= {*found} and all(any(re.fullmatch(it, one) for it in allowed) for one in found)
+
+
+def checksums(text: str) -> Set[Tuple[str, str, str]]:
+    """The digests, sizes and names of the files that a description of Debian's lists."""
+    told = re.search(r"^Checksums-Sha256:[ ]*\n((?: .*\n)+)", text, re.M)
+    return {(one, size, name) for one, size, name in (line.split() for line in (told[1] if told else "").splitlines())}
 
 
 # ---- the judgement
@@ -517,7 +561,7 @@ class Release:
         self.said.append("A TRIAL, NOT A RELEASE: take it for nothing else.")
         self.said += [f"lacks: {text}." for text in self.told_lacks()]
         silent = [name for name in ("BUILD", "PROOFS") if not self.file(name).decode().startswith(f"{OF_TRIAL}\n")]
-        silent += [name for name in self.read if name.endswith((".deb", ".gz")) and TRIAL not in name]
+        silent += [name for name in self.read if name.endswith((".deb", ".gz", ".xz", ".dsc", ".buildinfo")) and TRIAL not in name]
         if silent:
             raise Bad(f"it calls itself a trial, and not in {', '.join(silent)}")
 
@@ -611,35 +655,47 @@ class Release:
         parts = self.parts()
         for path in packed.links:
             if path not in wanted or wanted[path] is not None:
-                raise Bad(f"{where}: the link {path} isn't of tools/installed.txt")
+                raise Bad(f"{where}: the link {path} isn't of the Makefile")
         for path, data in packed.files.items():
-            plain = path[:-3] if path.startswith("usr/share/man/") else path
+            is_packed = path.endswith(".gz") and path[:-3] in wanted
+            plain = path[:-3] if is_packed else path
             source = wanted.get(plain)
             if any(fnmatch(path, pattern) for pattern in MADE):
                 continue
+            if path == RUN_AT_UPGRADES:
+                self.script(where, data)
+                continue
             if source is None:
-                raise Bad(f"{where}: {path} isn't of tools/installed.txt")
-            found = digest(gunzipped(data) if plain != path else data)
-            if found != (parts[source] if source in parts else digest(self.source(source))):
+                raise Bad(f"{where}: {path} isn't of the Makefile")
+            of_sources = of_version(self.source(source), self.label()) if source == CHANGELOG else b"" if source in parts else self.source(source)
+            if digest(gunzipped(data) if is_packed else data) != (parts[source] if source in parts else digest(of_sources)):
                 raise Bad(f"{where}: {path} isn't {source} of the sources, or of BUILD")
             yield plain
 
-    def control(self, name: str, told: Files) -> None:
-        """Holds what a package says of itself against tools/packages.txt; raises Bad where it says something else."""
-        if not set(told) <= {"control", "md5sums", "shlibs", "triggers", "conffiles"}:
+    def script(self, where: str, data: bytes) -> None:
+        """Raises Bad where a script does more than compile Python's files, or take away what was compiled."""
+        lines = [" ".join(re.sub(r" (python3-timeweave|timeweave:amd64|timeweave)(?= |$)", " NAME", line).split()) for line in data.decode().splitlines()]
+        wrong = [line for line in lines if line not in SCRIPTED]
+        if wrong:
+            raise Bad(f"{where} has a script that does more than compile what is of Python: {wrong[0][:80]}")
+
+    def control(self, name: str, told: Files) -> str:
+        """Holds what a package says of itself against debian/control, and answers its name; raises Bad where it says something else."""
+        if not {*told} <= {"control", "md5sums", "shlibs", "symbols", "triggers", "conffiles", "postinst", "prerm"}:
             raise Bad(f"{name} has scripts: {', '.join(told)}")
-        if told.get("triggers", LDCONFIG) != LDCONFIG:
+        for script in {"postinst", "prerm"} & {*told}:
+            self.script(name, told[script])
+        if [line for line in told.get("triggers", b"").decode().splitlines() if not line.startswith("#")] not in ([], LDCONFIG):
             raise Bad(f"{name} asks for more than ldconfig when it is installed")
         found = fields_of(told["control"].decode())
-        wanted = next((it for it in stanzas(self.source("tools/packages.txt").decode()) if it["Package"] == found.get("Package")), None)
+        wanted = next((it for it in stanzas(self.source("debian/control").decode()) if it["Package"] == found.get("Package")), None)
         if wanted is None or not name.startswith(f"{wanted['Package']}_{self.label()}_"):
-            raise Bad(f"{name} isn't of tools/packages.txt, or of another version")
-        wanted = {**wanted, "Version": self.label(), "Priority": "optional"}
-        for field, text in found.items():
-            pattern = re.escape(wanted.get(field, "")).replace("SAME", re.escape(f"(= {self.label()})"))
-            pattern = pattern.replace("SHLIBS", NEEDED).replace("VERSION", re.escape(self.label()))
-            if field not in FREE and not re.fullmatch(pattern, text):
-                raise Bad(f"{name} says `{field}: {text}`, and tools/packages.txt doesn't")
+            raise Bad(f"{name} isn't of debian/control, or of another version")
+        wanted = {**wanted, "Version": self.label()}
+        for field in [field for field in {**wanted, **found} if field not in FREE]:
+            if not is_filled(found.get(field, ""), wanted.get(field, ""), self.label()):
+                raise Bad(f"{name} says `{field}: {found.get(field, '')}`, and debian/control doesn't")
+        return wanted["Package"]
 
     def packages(self) -> None:
         """The packages and the tar file have the files of the sources, and the built ones that BUILD names."""
@@ -648,8 +704,7 @@ class Release:
         names = [name for name in self.read if name.endswith(".deb")]
         for name in names:
             control, data = parts_of_deb(self.read[name])
-            self.control(name, control.files)
-            seen |= {*self.compare(name, data, wanted), *data.links}
+            seen |= {*self.compare(name, data, {**wanted, **of_debian(self.control(name, control.files))}), *data.links}
             settings = {path for path in data.files if path.startswith("etc/")}
             if {*control.files.get("conffiles", b"").decode().splitlines()} != {f"/{path}" for path in settings}:
                 raise Bad(f"{name}: conffiles aren't its settings")
@@ -658,19 +713,31 @@ class Release:
                 raise Bad(f"{name}: md5sums aren't those of its files")
         elsewhere = table(self.sources, ELSEWHERE, version)
         packed = unpacked(gunzipped(self.one("timeweave-*-x86_64-linux.tar.gz")), f"timeweave-{label}-x86_64-linux/")
-        if packed.files.pop("LICENSE", None) != self.source("LICENSE"):
-            raise Bad("the tar file has another LICENSE than the sources")
         other = {*self.compare("the tar file", packed, elsewhere), *packed.links}
         made = {path for path in (*wanted, *elsewhere) if any(fnmatch(path, pattern) for pattern in MADE)}
         missing = sorted(({*wanted} - seen - made) | ({*elsewhere} - other - made))
-        if missing or len(names) != self.source("tools/packages.txt").decode().count("\nPackage: "):
+        if missing or len(names) != len(stanzas(self.source("debian/control").decode())):
             raise Bad(f"packages lack files: {', '.join(missing[:3])}")
         if digest(self.file("timeweave.html")) != self.parts().get("web/timeweave.html"):
             raise Bad("timeweave.html isn't the page that BUILD names")
-        told = f"{len(names)} packages and the tar file have the {len(seen)} files of tools/installed.txt"
-        self.good(f"{told}, each as the sources or BUILD have it, and no scripts.")
-        self.left("tables, changelog and the like, which are made while it is packed.")
+        self.described(names)
+        told = f"{len(names)} packages and the tar file have the {len({*wanted} & seen)} files that `make install` copies"
+        self.good(f"{told}, each as the sources or BUILD have it, and no scripts but those that compile what is of Python, and take that away.")
+        self.left("tables and the like, which are made while it is packed.")
         self.left("that program, library and page are built of the sources: `make twice BESIDE=1` with the kit shows that.")
+
+    def described(self, names: List[str]) -> None:
+        """Holds the source package against the sources, and what Debian's tools wrote of source and packages against the files; raises Bad where they differ."""
+        tar = f"timeweave_{self.label()}.tar.xz"
+        packed, wanted = unpacked(unpacked_xz(self.file(tar)), self.front()), dict(self.sources)
+        wanted[CHANGELOG] = of_version(wanted[CHANGELOG], self.label())
+        wanted.pop(".gitignore", None)
+        if packed.files != wanted or packed.links:
+            other = sorted(path for path in {*wanted, *packed.files} if wanted.get(path) != packed.files.get(path))
+            raise Bad(f"the source package isn't of the sources: {', '.join(other[:3])}")
+        for description, files in ((f"timeweave_{self.label()}.dsc", [tar]), (f"timeweave_{self.label()}_amd64.buildinfo", names)):
+            if checksums(self.file(description).decode()) != {(digest(self.read[name]), str(len(self.read[name])), name) for name in files}:
+                raise Bad(f"{description} tells other digests than those of {', '.join(files)}")
 
     def licences(self) -> None:
         """LICENCES has the licence and NOTICE of the sources, and the parts stand in the list of parts."""
@@ -695,18 +762,18 @@ class Release:
         wanted = {path[len("vectors/") :]: data for path, data in self.sources.items() if path.startswith("vectors/")}
         if packed.files != wanted:
             raise Bad("the vectors aren't those of the sources")
-        done = self.judged([sys.executable, "-I", "-c", BY_REFERENCE, str(self.room)])
+        done = self.run_judge([sys.executable, "-I", "-c", BY_REFERENCE, str(self.room)])
         self.good(f"the second implementation, as the source archive has it, answers {done.strip()} vectors as they say.")
         names = [name for name in sorted(packed.files) if name.endswith(".json") and name != "schema.json"]
         files = [str(self.room / "vectors" / name) for name in names]
         if has_perl():
-            told = self.judged(["perl", str(self.room / TRY_IN_PERL), *files]).strip()
+            told = self.run_judge(["perl", str(self.room / TRY_IN_PERL), *files]).strip()
             self.good(f"of the vectors by the verifier in Perl: {told}.")
         else:
             self.left("the vectors by the verifier in Perl, since there is no perl, or not all of its own modules (Debian: perl).")
         self.left("the vectors by the release's program: python3 tests/acceptance/run.py PROGRAM -k vectors, in the unpacked sources.")
 
-    def judged(self, words: List[str]) -> str:
+    def run_judge(self, words: List[str]) -> str:
         """What a judge of the vectors says; raises Bad where one isn't answered."""
         done = subprocess.run(words, cwd=self.room, capture_output=True, text=True, check=False)
         if done.returncode:

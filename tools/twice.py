@@ -24,7 +24,7 @@ from pathlib import Path
 from typing import NamedTuple
 
 import body_trials
-from crate_copy import TOP
+from crates import TOP
 from judge_release import OF_TRIAL
 
 BUILT = ("bin", "lib", "web")
@@ -75,7 +75,7 @@ def make(place, room, commit="HEAD", is_packs=False, log=None):
     folder, home = prepare(place, room, commit)
     if log:
         shutil.copyfile(log, home / "gate.log")
-    packing = ["tools/release.py", "--gate", str(home / "gate.log"), *["--trial"] * is_trial()] if log else ["tools/package.py"]
+    packing = ["tools/release.py", "--gate", str(home / "gate.log"), *["--trial"] * is_trial()] if log else ["tools/release.py", "--packages"]
     if is_packs:
         for name in BUILT:
             shutil.copytree(TOP / name, folder / name, symlinks=True, dirs_exist_ok=True)
