@@ -4,8 +4,6 @@ import re
 import subprocess
 from pathlib import Path
 
-HERE = Path(__file__).resolve().parent
-
 # The program's first calls of its own see whether the standard streams are open.
 BEGINNING = "fcntl(0, F_DUPFD_CLOEXEC"
 
@@ -30,13 +28,6 @@ CALLS = (
     (r"(?:fsync|fdatasync)\((\d+)\)", named("sync")),
     (r"close\((\d+)\)", named("close")),
 )
-
-
-def built(folder):
-    """The compiled program of the calls."""
-    program = f"{folder}/same_calls"
-    subprocess.run(["cc", "-O2", "-o", program, HERE / "same_calls.c"], check=True)
-    return program
 
 
 def traced(words, folder):

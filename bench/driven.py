@@ -1,13 +1,16 @@
-"""Weft in a process of its own, which tells what it took: for the figures of large logs and of nights with many peers."""
+"""Weft in a process of its own, which tells what it took: for the figures of large logs, of nights with many peers, and of each word."""
 
-from pathlib import Path
+import json
+import re
+import subprocess
+import sys
+from typing import Any, Sequence, Tuple
 
-TOP = Path(__file__).resolve().parent.parent
+from measuring import Bench, Found
 
 # What is counted stands before weft runs, and what of it is told behind it.
 DRIVER = """
 import json, os, resource, subprocess, sys, time
-sys.path[:0] = {paths!r}
 from weft import stores
 from weft.main import main
 {counting}
@@ -23,7 +26,11 @@ sys.exit(status)
 """
 
 
-def driver(counting, told):
-    """The text of a Python program that runs weft with the words that follow it, and writes a line `TOLD` with JSON to standard error."""
-    paths = [str(TOP), str(TOP / "reference"), str(TOP / "bindings/python")]
-    return DRIVER.format(paths=paths, counting=counting, told=told)
+def drive(bench: Bench, words: Sequence[Any], counting: str = "", told: str = "", before: Sequence[str] = (), good: Sequence[int] = (0, 10)) -> Tuple[Found, str]:
+    """Runs weft with these words in the folder of the measure; what it took, and what it wrote."""
+    command = [*before, sys.executable, "-c", DRIVER.format(counting=counting, told=told), *map(str, words)]
+    done = subprocess.run(command, cwd=bench.folder, env=bench.environment, capture_output=True, text=True)
+    found = re.search(r"^TOLD(.*)$", done.stderr, re.M)
+    if found is None or done.returncode not in good:
+        raise SystemExit(f"weft {' '.join(map(str, words))}: {done.returncode} {done.stdout[-2000:]} {done.stderr[-2000:]}")
+    return json.loads(found[1]), done.stdout

@@ -1,5 +1,5 @@
-"""Proofs checked in one process, by the library from C, from Python and, compiled for WebAssembly, from JavaScript in Node, beside a process for each, and beside what vouches for a record
-elsewhere, where it is installed."""
+"""Proofs checked in one process, by the library from C, from Python and, compiled for WebAssembly, from JavaScript in Node, beside a process for each, and beside what
+vouches for a record elsewhere, where it is installed. Several threads at once, and several processes, tell what this machine does besides."""
 
 import os
 import re
@@ -7,22 +7,20 @@ import shutil
 import subprocess
 import sys
 from pathlib import Path
+from typing import Iterator, List, Optional, Sequence, Tuple
 
-import goals
-from timing import best_times
+from commands import deep_words, least_words
+from measuring import HERE, TOP, Bench, Found, compiled, load, table, time_commands
 
-TOP = Path(__file__).resolve().parent.parent
 LIBRARY = TOP / "lib/libtimeweave.a"
 MODULE = TOP / "web/timeweave.wasm"
-
 # How many threads check at once.
 THREADS = 4
 
 BY_PYTHON = """
 import sys, threading, time
-sys.path.insert(0, sys.argv[1])
 import timeweave
-proof, anchors, count, threads = open(sys.argv[2], "rb").read(), open(sys.argv[3], "rb").read(), *map(int, [*sys.argv[4:], "1"][:2])
+proof, anchors, count, threads = open(sys.argv[1], "rb").read(), open(sys.argv[2], "rb").read(), *map(int, [*sys.argv[3:], "1"][:2])
 def check():
     for _ in range(count):
         timeweave.verify(proof, anchors)
@@ -36,114 +34,68 @@ print(f"{whole} of {whole} accepted, {whole / spent:.0f} a second of processor t
 """
 
 
-def rates(words):
+def rates(words: Sequence[object], environment: Optional[dict] = None) -> List[int]:
     """How many a second the command tells, of processor time, and by the clock where it tells that too."""
-    told = subprocess.run(words, check=True, capture_output=True, text=True).stdout
-    return [float(found) for found in re.findall(r"(\d+) a second", told)]
+    told = subprocess.run(list(map(str, words)), check=True, capture_output=True, text=True, env=environment).stdout
+    return [int(found) for found in re.findall(r"(\d+) a second", told)]
 
 
-def rate(words):
-    """How many a second of processor time the command tells."""
-    return rates(words)[0]
+def best_rates(words: Sequence[object], environment: Optional[dict] = None, runs: int = 3) -> List[int]:
+    """The best of some runs."""
+    return [max(found) for found in zip(*(rates(words, environment) for _ in range(runs)))]
 
 
-def best_rate(words, runs):
-    return max(rate(words) for _ in range(runs))
-
-
-def signatures():
+def signatures() -> int:
     """How many signatures of RSA with 2,048 bits OpenSSL verifies a second in one process, of which a time stamp's check needs one at least."""
     told = subprocess.run(["openssl", "speed", "-mr", "-seconds", "1", "rsa2048"], check=True, capture_output=True, text=True).stdout
-    return float(re.search(r"^\+F2:\d+:2048:[\d.]+:([\d.]+)", told, re.M)[1])
+    found = re.search(r"^\+F2:\d+:2048:[\d.]+:([\d.]+)", told, re.M)
+    assert found is not None
+    return round(float(found[1]))
 
 
-def log_checker(folder):
+def log_checker(folder: str) -> Optional[str]:
     """The command that checks a record of a log of Go's sumdb/tlog many times, built, where Go and Debian's package of it are there."""
-    source, kept = TOP / "bench/tlog.go", Path("/usr/share/gocode/src/golang.org/x/mod/sumdb/tlog")
-    if not (shutil.which("go") and kept.exists()):
+    if not (shutil.which("go") and Path("/usr/share/gocode/src/golang.org/x/mod/sumdb/tlog").exists()):
         return None
     command, settings = f"{folder}/tlog", {"GO111MODULE": "off", "GOPATH": "/usr/share/gocode", "GOCACHE": f"{folder}/gocache"}
-    subprocess.run(["go", "build", "-o", command, source], check=True, env={**os.environ, **settings})
+    subprocess.run(["go", "build", "-o", command, HERE / "tlog.go"], check=True, env={**os.environ, **settings})
     return command
 
 
-def files(words):
+def files_of(words: List[str]) -> List[str]:
     """The proof's path, and that of an anchors file of the line that the words of `verify` give."""
-    anchors = Path(f"{words[2]}.anchors")
-    anchors.write_text(" ".join(words[3:]) + "\n")
-    return [words[2], str(anchors)]
+    Path(f"{words[2]}.anchors").write_text(" ".join(words[3:]) + "\n")
+    return [words[2], f"{words[2]}.anchors"]
 
 
-def compiled(folder):
-    """The program in C that checks a proof many times, built."""
-    program = f"{folder}/many_proofs"
-    subprocess.run(["cc", "-O2", "-I", TOP / "include", "-o", program, TOP / "examples/many_proofs.c", LIBRARY, "-pthread"], check=True)
-    return program
-
-
-def asked(bench, program):
+def checkers(bench: Bench) -> Iterator[Tuple[str, str, List[object]]]:
     """What checks a proof many times, each with a label, the proof's size, and its words but for how often."""
-    python = [sys.executable, "-c", BY_PYTHON, str(TOP / "bindings/python")]
-    for size, words in (("145", bench.least), ("14,547", bench.deep)):
-        yield "the library from C", size, [program, *files(words)]
-        yield "the library from Python", size, [*python, *files(words)]
+    program = compiled(bench.folder, "many_proofs", "-I", TOP / "include", LIBRARY, "-pthread") if LIBRARY.exists() else None
+    for size, words in (("145", least_words(bench)), ("14,547", deep_words(bench))):
+        if program is not None:
+            yield "the library from C", size, [program, *files_of(words)]
+            yield "the library from Python", size, [sys.executable, "-c", BY_PYTHON, *files_of(words)]
+        if MODULE.exists() and shutil.which("node"):
+            yield "the module of WebAssembly from Node", size, ["node", TOP / "web/tests/many.mjs", *files_of(words)]
 
 
-def in_process_rows(bench, program, runs):
-    """The rows of one thread."""
-    count, rows = bench.plan.checked, []
-    for label, size, words in asked(bench, program):
-        rows.append((f"{label}, {size} bytes", best_rate([*words, str(count)], runs)))
-    if MODULE.exists() and shutil.which("node"):
-        for size, words in (("145", bench.least), ("14,547", bench.deep)):
-            command = ["node", TOP / "web/tests/many.mjs", *files(words), str(count)]
-            rows.append((f"the module of WebAssembly from Node, {size} bytes", best_rate(command, runs)))
-    rows.append(("`timeweave verify`, 145 bytes, a process each", 1 / best_times([bench.least], bench.plan.runs)[0]))
+def measure_in_process(bench: Bench) -> Found:
+    """The part."""
+    count, rows, threads = bench.pick(100_000, 1_000), [], []
+    for label, size, words in checkers(bench):
+        of_size = count if size == "145" else count // 10
+        one = best_rates([*words, of_size], bench.environment)
+        rows.append({"check": f"{label}, {size} bytes", "a second": one[0], "load": load()})
+        if "library" in label:
+            many = best_rates([*words, of_size, THREADS], bench.environment)
+            cells = {"one thread, a second": one[0], "each of four, a second": many[0], "four together, a second by the clock": many[1]}
+            threads.append({"check": f"{label}, {size} bytes", **cells, "load": load()})
+    rows.append({"check": "`timeweave verify`, 145 bytes, a process each", "a second": round(1 / min(time_commands([least_words(bench)], bench.pick(1_000, 3))[0]))})
     log = log_checker(bench.folder)
     if log:
-        rows.append(("Go's `tlog.CheckRecord`, one of 65,536 records, 16 hashes", best_rate([log, "65536", str(count)], runs)))
+        rows.append({"check": "Go's `tlog.CheckRecord`, one of 65,536 records, 16 hashes", "a second": best_rates([log, 65_536, count])[0], "load": load()})
     if shutil.which("openssl"):
-        rows.append(("`openssl speed rsa2048`: one signature verified", signatures()))
-    return [f"| {label} | {found:,.0f} |" for label, found in rows]
-
-
-def thread_lines(bench, program, runs):
-    """The table of several threads at once: what they do together by the clock, beside one, and what each check takes of a processor."""
-    rows = []
-    for label, size, words in asked(bench, program):
-        count = bench.plan.checked // (1 if size == "145" else 10)
-        one, several = ([max(found) for found in zip(*(rates([*words, str(count), str(threads)]) for _ in range(runs)))] for threads in (1, THREADS))
-        if label.endswith("C") and size == "145":
-            goals.note("library", several[1])
-        # (in one thread nothing waits but for other programs: by the clock it is told too, of processor time it is the same)
-        rows.append(f"| {label}, {size} bytes | {one[0]:,.0f} | {several[0]:,.0f} | {several[1]:,.0f} |")
-    return [
-        "", f"In {THREADS} threads at once, on {os.cpu_count()} processors; the load of other work was {os.getloadavg()[0]:.1f}, and only near 0 the last column tells what {THREADS} threads are worth. In Python one thread at a time makes the call and",
-        "reads the report; during the call others run.", "",
-        "| check | one thread, a second | each of them, a second | together, a second by the clock |", "|---|---|---|---|", *rows,
-    ]  # fmt: skip
-
-
-def in_process_lines(bench):
-    """The tables."""
-    if not (LIBRARY.exists() and shutil.which("cc")):
-        return ["", "The library wasn't measured: it isn't built (`make lib`), or there is no C compiler."]
-    program, runs = compiled(bench.folder), 3
-    lines = in_process_rows(bench, program, runs)
-    text = ["", "## Proofs in one process", "", "The anchors are read and the report is written each time; by processor time:", "", "| check | a second |", "|---|---|", *lines]
-    return text + thread_lines(bench, program, runs)
-
-
-def main():
-    """Prints the table alone, of the built program and library."""
-    import tempfile
-
-    from measure import Bench, Plan
-
-    with tempfile.TemporaryDirectory() as folder:
-        bench = Bench(sys.argv[1], folder, Plan("--try" in sys.argv))
-        print("\n".join(in_process_lines(bench)))
-
-
-if __name__ == "__main__":
-    main()
+        rows.append({"check": "`openssl speed rsa2048`: one signature verified", "a second": signatures(), "load": load()})
+    columns = {name: 0 for name in (threads[0] if threads else {"check": 0}) if name != "load"}
+    together = threads[0]["four together, a second by the clock"] if threads else None
+    return {"tables": {"checks": table({"check": 0, "a second": 0}, rows), "threads": table(columns, threads)}, "values": {"four_threads": together}}

@@ -3,6 +3,7 @@
     python3 bench/instructions.py COMMAND [WORD ..]     prints the functions of the command that take the most, and what one calls how often
 """
 
+import argparse
 import os
 import re
 import shutil
@@ -79,11 +80,19 @@ def fillings(path):
     return frozenset(int(place, 16) for place in STRING.findall(listed))
 
 
-def counted(words, folder, text=b""):
-    """The instructions of a run on this input."""
+def count_instructions(words, folder, text=b""):
+    """The instructions of a run on this input; None where valgrind isn't installed, or can't run the program."""
+    try:
+        return add_up(os.path.realpath(words[0]), profile(words, folder, text))
+    except (OSError, subprocess.CalledProcessError) as failure:
+        print(f"instructions weren't counted: {failure}"[:200], file=sys.stderr)
+        return None
+
+
+def add_up(program, lines):
+    """The instructions of a profile."""
     total = own = inside = blocks = filled = 0
-    program = os.path.realpath(words[0])
-    for line in read(profile(words, folder, text)):
+    for line in read(lines):
         total += line.cost
         own += line.cost if line.object == program else 0
         inside += line.cost if COMPRESS in line.function else 0
@@ -105,8 +114,13 @@ def functions(words, folder, text=b""):
 
 
 def main():
+    """Prints the functions of a command."""
+    words = argparse.ArgumentParser(description=__doc__, formatter_class=argparse.RawDescriptionHelpFormatter)
+    words.add_argument("command", metavar="COMMAND", help="the command")
+    words.add_argument("words", nargs=argparse.REMAINDER, metavar="WORD", help="its words")
+    told = words.parse_args()
     with tempfile.TemporaryDirectory() as folder:
-        found = functions([os.path.realpath(shutil.which(sys.argv[1]) or sys.argv[1]), *sys.argv[2:]], folder)
+        found = functions([os.path.realpath(shutil.which(told.command) or told.command), *told.words], folder)
     total, filled = sum(cost for cost, *_ in found), sum(fill for _, fill, *_ in found)
     print(f"{total:,} in all, {filled:,} of them to fill or copy memory")
     for cost, fill, calls, name in found[:SHOWN]:

@@ -10,7 +10,8 @@ import shutil
 import subprocess
 from pathlib import Path
 
-HERE = Path(__file__).resolve().parent
+from measuring import compiled
+
 STORES = (("LMDB", "lmdb_rows", "lmdb"), ("sqlite3", "sqlite_rows", "sqlite3"))
 
 # Bytes that are written, by the descriptor; the last group is how many.
@@ -19,12 +20,7 @@ WRITES = re.compile(r"p?write(?:v|64|v2)?\((\d+), .* = (\d+)$")
 
 def built(folder):
     """The stores whose program the C compiler makes here, each with its label."""
-    found = []
-    for label, name, library in STORES:
-        words = ["cc", "-O2", "-o", f"{folder}/{name}", HERE / f"{name}.c", f"-l{library}"]
-        if shutil.which("cc") and subprocess.run(words, capture_output=True).returncode == 0:
-            found.append((label, f"{folder}/{name}"))
-    return found
+    return [(label, program) for label, name, library in STORES if (program := compiled(folder, name, f"-l{library}")) is not None]
 
 
 class Rows:
@@ -57,11 +53,3 @@ class Moved:
         written = [found.groups() for line in own if (found := WRITES.match(line))]
         self.syncs = sum(line.startswith(("fsync", "fdatasync")) for line in own) + sum(file in at_once for file, _ in written)
         self.written = sum(int(size) for _, size in written)
-
-
-def kib(size):
-    return f"{size / 1024:.1f}"
-
-
-def cell(moved):
-    return f"{moved.syncs}; {kib(moved.written)}"

@@ -1,41 +1,24 @@
-#!/usr/bin/env python3
-"""How long `weft judge --many` takes for many histories over 1, 2 and 4 processes, and over a Dask cluster of three workers on this machine, one of
-which is killed amid; prints the rows of a table.
+"""How long `weft judge --many` takes for many histories over 1, 2 and 4 processes, and over a Dask cluster of three workers on this machine, one of which is killed
+amid. For the cluster it needs Debian's python3-distributed, and leaves it out where that isn't there."""
 
-    python3 bench/many_workers.py PROGRAM [HISTORIES [STEPS]]      else 2,000 histories of 40 steps, each of an event
-
-For the cluster it needs Debian's python3-distributed, and leaves it out where that isn't there."""
-
-import argparse
 import hashlib
 import os
 import resource
 import shutil
 import subprocess
 import sys
-import tempfile
 import time
 from pathlib import Path
-from typing import NamedTuple, Optional
+from typing import List, Optional
 
-TOP = Path(__file__).resolve().parent.parent
-sys.path[:0] = [str(TOP / "reference")]
+from measuring import Bench, Found, load, table
 
-from timeweave_reference.services import service_of  # noqa: E402
+from timeweave_reference.services import service_of
 
-WORKERS = (1, 2, 4)
-OF_CLUSTER = 3
-LONGEST = 1800
+WORKERS, OF_CLUSTER, LONGEST = (1, 2, 4), 3, 7_200
 
 
-class Run(NamedTuple):
-    """What a run took: seconds by the clock, and of processors."""
-
-    seconds: float
-    processor: float
-
-
-def make(folder: Path, count: int, steps: int) -> None:
+def make_histories(folder: Path, count: int, steps: int) -> None:
     """Makes histories, and keeps the line of each one's last step."""
     (folder / "many").mkdir()
     lines = []
@@ -46,30 +29,24 @@ def make(folder: Path, count: int, steps: int) -> None:
     (folder / "kept").write_bytes(b"".join(lines))
 
 
-def environment(program: str, folder: Path) -> dict[str, str]:
-    """The environment of the runs."""
-    library = TOP / "lib/libtimeweave.so"
-    own = {"TIMEWEAVE_PROGRAM": program, "PYTHONPATH": f"{TOP}:{TOP / 'reference'}", "HOME": str(folder), "TMPDIR": str(folder)}
-    return {"PATH": os.environ["PATH"], **own, **({"TIMEWEAVE_LIBRARY": str(library)} if library.exists() else {})}
-
-
-def words_for(python: str, table: str, *more: str) -> list[str]:
+def words_for(python: str, table: str, *more: str) -> List[str]:
     """The words that judge all histories."""
     return [python, "-m", "weft", "judge", "--many", "many", "--kept", "kept", "--table", table, *more]
 
 
-def over_processes(folder: Path, program: str, python: str, workers: int) -> Run:
+def judge_by_processes(bench: Bench, workers: int) -> Found:
     """A run over so many processes."""
     before, began = resource.getrusage(resource.RUSAGE_CHILDREN), time.monotonic()
-    words = words_for(python, f"t{workers}", "--workers", str(workers))
-    subprocess.run(words, cwd=folder, env=environment(program, folder), check=True, capture_output=True, timeout=LONGEST)
-    after = resource.getrusage(resource.RUSAGE_CHILDREN)
-    return Run(time.monotonic() - began, after.ru_utime + after.ru_stime - before.ru_utime - before.ru_stime)
+    words = words_for(sys.executable, f"t{workers}", "--workers", str(workers))
+    subprocess.run(words, cwd=bench.folder, env=bench.environment, check=True, capture_output=True, timeout=LONGEST)
+    took, after = time.monotonic() - began, resource.getrusage(resource.RUSAGE_CHILDREN)
+    return {"over": f"{workers} processes", "seconds": took, "seconds of processors": after.ru_utime + after.ru_stime - before.ru_utime - before.ru_stime}
 
 
-def over_cluster(folder: Path, program: str, python: str, is_killed: bool) -> Run:
+def judge_by_cluster(bench: Bench, python: str, is_killed: bool) -> Found:
     """A run over a Dask cluster; one of its workers is killed once a third of the rows is there. (Of processors nothing is told.)"""
-    env, port = environment(program, folder), str(20_000 + os.getpid() % 20_000)
+    folder, env, port = Path(bench.folder), bench.environment, str(20_000 + os.getpid() % 20_000)
+    own_rows(folder).unlink(missing_ok=True)
     words = [python, "-m", "distributed.cli.dask_scheduler", "--no-dashboard", "--host", "127.0.0.1", "--port", port]
     running = [subprocess.Popen(words, cwd=folder, env=env, stderr=subprocess.DEVNULL)]
     try:
@@ -84,7 +61,8 @@ def over_cluster(folder: Path, program: str, python: str, is_killed: bool) -> Ru
         if is_killed:
             running[-1].kill()
         assert judge.wait(LONGEST) == 0, "all are shown"
-        return Run(time.monotonic() - began, 0)
+        told = "the same, one worker killed" if is_killed else "a Dask cluster of three workers"
+        return {"over": told, "seconds": time.monotonic() - began, "seconds of processors": "not measured"}
     finally:
         for it in running:
             it.kill()
@@ -96,43 +74,27 @@ def own_rows(folder: Path) -> Path:
     return folder / ".local/share/weft/judged" / f"{hashlib.sha256(os.fsencode(folder / 'tc')).hexdigest()}.rows"
 
 
-def rows_once(table: Path, count: int) -> bool:
-    """Whether a table has each history once, as shown."""
+def expect_once(table: Path, count: int) -> None:
+    """A table has each history once, as shown."""
     rows = [line.split("\t") for line in table.read_text().splitlines()[2:]]
-    return sorted(row[0] for row in rows) == sorted(f"s{number}" for number in range(count)) and all(row[3] == "shown" for row in rows)
+    assert sorted(row[0] for row in rows) == sorted(f"s{number}" for number in range(count)) and all(row[3] == "shown" for row in rows), table
 
 
-def with_cluster() -> Optional[str]:
+def python_with_cluster() -> Optional[str]:
     """A Python that has the package of Dask."""
     found = [path for path in (sys.executable, "/usr/bin/python3") if shutil.which(path)]
     return next((path for path in found if subprocess.run([path, "-c", "import distributed"], capture_output=True).returncode == 0), None)
 
 
-def main() -> int:
-    """Measures, and prints the rows."""
-    words = argparse.ArgumentParser(description=__doc__, formatter_class=argparse.RawDescriptionHelpFormatter)
-    words.add_argument("program", metavar="PROGRAM")
-    words.add_argument("histories", metavar="HISTORIES", nargs="?", type=int, default=2000)
-    words.add_argument("steps", metavar="STEPS", nargs="?", type=int, default=40)
-    given = words.parse_args()
-    program, python = os.path.abspath(given.program), with_cluster()
-    with tempfile.TemporaryDirectory(prefix="many-") as name:
-        folder = Path(name)
-        make(folder, given.histories, given.steps)
-        print(f"{given.histories:,} histories of {given.steps} steps; {os.cpu_count()} processors, load before {Path('/proc/loadavg').read_text().split()[0]}")
-        print("| workers | seconds | seconds of processors | load behind it |\n|---|---|---|---|")
-        for workers in WORKERS:
-            took = over_processes(folder, program, python or sys.executable, workers)
-            assert rows_once(folder / f"t{workers}", given.histories)
-            print(f"| {workers} | {took.seconds:.1f} | {took.processor:.1f} | {os.getloadavg()[0]:.1f} |", flush=True)
-        for is_killed in (False, True) if python else ():
-            own_rows(folder).unlink(missing_ok=True)
-            took = over_cluster(folder, program, python or "", is_killed)
-            assert rows_once(folder / "tc", given.histories)
-            told = "a Dask cluster of 3, one killed amid" if is_killed else "a Dask cluster of 3"
-            print(f"| {told} | {took.seconds:.1f} | | {os.getloadavg()[0]:.1f} |", flush=True)
-    return 0
-
-
-if __name__ == "__main__":
-    sys.exit(main())
+def measure_many(bench: Bench) -> Found:
+    """The part."""
+    count, steps, python = bench.pick(2_000, 20), bench.pick(40, 3), python_with_cluster()
+    make_histories(Path(bench.folder), count, steps)
+    rows = []
+    for workers in WORKERS:
+        rows.append({**judge_by_processes(bench, workers), "load": load()})
+        expect_once(Path(bench.folder, f"t{workers}"), count)
+    for is_killed in (False, True) if python and not bench.is_trial else ():
+        rows.append({**judge_by_cluster(bench, python or "", is_killed), "load": load()})
+        expect_once(Path(bench.folder, "tc"), count)
+    return {"tables": {"many": table({"over": 0, "seconds": 1, "seconds of processors": 1}, rows)}, "values": {"histories": count, "steps": steps}}

@@ -87,13 +87,10 @@ def stamps(folder, count):
 
 
 def all_rivals(folder, count):
-    """The commands beside `verify`, `prove` and `append`, each with a label; and the programs that aren't installed."""
+    """The commands beside `verify`, `prove` and `append`, each with a label, of the programs that are installed."""
     os.environ.update(ENVIRONMENT)
-    found, missing = {"verify": [], "prove": [], "append": []}, []
+    found = {}
     for name, made in (("sqlite3", sqlite), ("git", git), ("openssl", stamps)):
-        if not shutil.which(name):
-            missing.append(name)
-            continue
-        for kind, commands in made(folder, count).items():
-            found[kind] += commands
-    return found, missing
+        for kind, commands in made(folder, count).items() if shutil.which(name) else ():
+            found[kind] = found.get(kind, []) + commands
+    return found

@@ -1,6 +1,4 @@
-"""How far and how fast a step spreads over a network of services, by simulation; prints the tables of docs/scale.md.
-
-    python3 bench/scale.py [MOST]      networks of at most so many services; a million if it isn't said
+"""How far and how fast a step spreads over a network of services, by simulation: the table of docs/scale.md.
 
 Each service sends its head to the same peers once a round, and whoever gets it receives it as a thread before it sends its own. A message
 is lost by chance, and the next round's, which holds all that the lost one held, takes its place. So a step of one service comes to another by
@@ -9,8 +7,9 @@ the way over which it arrives first; each message on that way is a hop of the pr
 
 import math
 import random
-import sys
 from array import array
+
+from measuring import Bench, Found, table
 
 SEED = 7
 NEVER = 255
@@ -63,29 +62,18 @@ def proof_size(hops, entries):
     return ENDS + hops * (HOP + NODE * math.ceil(math.log2(entries)))
 
 
-def spread_rows(most):
-    for count in filter(lambda count: count <= most, (1_000, 1_000_000)):
-        for name, peers_of in (("by chance", random_peers), ("small world", near_peers)):
-            for each in (4, 10):
-                for lost in (0, 0.2):
-                    rounds, hops = spread(count, each, peers_of, lost)
-                    met = [node for node in range(1, count) if rounds[node] != NEVER]
-                    mean = sum(rounds[node] for node in met) / len(met)
-                    far = [rounds[node] for node in met]
-                    over = [hops[node] for node in met]
-                    yield (
-                        f"| {count:,} | {name} | {each} | {lost:.0%} | {mean:.1f} | {quantile(far, 0.99)} | {max(far)} | {len(met) / (count - 1):.2%} "
-                        f"| {sum(over) / len(over):.1f} | {max(over)} | {proof_size(quantile(over, 0.5), 100_000):,} |"
-                    )
+def spread_row(count, name, each, lost):
+    """The row of a network."""
+    rounds, hops = spread(count, each, random_peers if name == "by chance" else near_peers, lost)
+    met = [node for node in range(1, count) if rounds[node] != NEVER]
+    far, over = [rounds[node] for node in met], [hops[node] for node in met]
+    of = {"services": count, "peers are": name, "peers": each, "lost": f"{lost:.0%}"}
+    times = {"rounds, mean": sum(far) / len(far), "99 of 100 by": quantile(far, 0.99), "all by": max(far), "reached": f"{len(met) / (count - 1):.2%}"}
+    return {**of, **times, "hops, mean": sum(over) / len(over), "most": max(over), "bytes of a proof": proof_size(quantile(over, 0.5), 100_000)}
 
 
-def main():
-    most = int(sys.argv[1]) if len(sys.argv) > 1 else 1_000_000
-    print("| services | peers are | peers | lost | rounds, mean | 99 of 100 by | all by | reached | hops, mean | most | bytes of a proof |")
-    print("|---|---|---|---|---|---|---|---|---|---|---|")
-    for row in spread_rows(most):
-        print(row, flush=True)
-
-
-if __name__ == "__main__":
-    main()
+def simulate(bench: Bench) -> Found:
+    """The part."""
+    counts = bench.pick((1_000, 1_000_000), (200,))
+    rows = [spread_row(count, name, each, lost) for count in counts for name in ("by chance", "small world") for each in (4, 10) for lost in (0, 0.2)]
+    return {"tables": {"spread": table({name: 1 if "mean" in name else 0 for name in rows[0]}, rows)}}

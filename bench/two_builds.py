@@ -22,7 +22,7 @@ TOP = HERE.parent
 sys.path[:0] = [str(TOP / "reference"), str(TOP / "tools")]
 
 import example_files  # noqa: E402
-import own_parts  # noqa: E402
+import measuring  # noqa: E402
 from calls import BEGINNING  # noqa: E402
 
 from timeweave_reference.events_files import events_to_bytes  # noqa: E402
@@ -33,7 +33,7 @@ STEPS = (1_000, 10_000)
 MOST = 1.0
 SAME = "the same"
 
-# The commands whose figures stand in RESULTS.md, besides those that grew.
+# The commands whose figures are written, besides those that grew.
 TOLD = ("append a events", "receive b message", "prove a event 1 0", "verify chain lines", "export a")
 
 # The commands, in words in which N is the last step of the stores, M the one before, and P and Q the next ones; those behind + write.
@@ -189,17 +189,15 @@ def all_rows(options, held):
                 yield row or compared(room, (options.before, options.after), command)
 
 
-def part_of_results(what, rows, most):
-    """The part of RESULTS.md."""
-    counted, other = [it for it in rows if it.before], [it for it in rows if it.differs != SAME]
-    sizes = " and ".join(f"{it:,}" for it in sorted({it.steps for it in rows}))
-    same = "each makes the same system calls in the same order, tells the same, and leaves the same store" if not other else f"{len(other)} differ"
-    changed = f"{min(it.more for it in counted):+.2f} % to {max(it.more for it in counted):+.2f} %"
-    return "\n".join([
-        own_parts.TWO_BUILDS, f"By `bench/two_builds.py` with `--write`: {what}, over stores of {sizes} steps. Of {len(rows)} runs {same}. Instructions changed by {changed}.", "",
-        "| steps | command | system calls | instructions before | after |", "|---|---|---|---|---|",
-        *(f"| {it.steps:,} | `{it.command}` | {it.calls:,} | {it.before:,} | {it.after:,} |" for it in counted if it.command in TOLD or it.more > most), "",
-    ])  # fmt: skip
+def write_results(what, rows, most):
+    """Writes the part of bench/results.json."""
+    counted, same = [it for it in rows if it.before], sum(it.differs == SAME for it in rows)
+    columns = ("steps", "command", "system calls", "instructions before", "after")
+    told = [dict(zip(columns, (it.steps, f"`{it.command}`", it.calls, it.before, it.after))) for it in counted if it.command in TOLD or it.more > most]
+    changed = {"least": round(min(it.more for it in counted), 2), "most": round(max(it.more for it in counted), 2)}
+    values = {"what": what, "steps": " and ".join(f"{it:,}" for it in sorted({it.steps for it in rows})), "runs": len(rows), "same": same, **changed}
+    found = {"tables": {"runs": measuring.table(dict.fromkeys(columns, 0), told)}, "values": values}
+    measuring.write_part("two_builds", {**measuring.describe_run("bench/two_builds.py BEFORE AFTER TABLE --write WHAT", tempfile.gettempdir(), measuring.load()), **found})
 
 
 def read_words():
@@ -211,7 +209,7 @@ def read_words():
     words.add_argument("--steps", metavar="N", type=int, nargs="+", default=STEPS)
     words.add_argument("--most", metavar="PERCENT", type=float, default=MOST)
     words.add_argument("--only", metavar="COMMAND", nargs="+", default=[])
-    words.add_argument("--write", metavar="WHAT", help="writes a part of bench/RESULTS.md, which says what both builds are in these words")
+    words.add_argument("--write", metavar="WHAT", help="writes a part of bench/results.json, which says what both builds are in these words")
     return words.parse_args()
 
 
@@ -227,8 +225,7 @@ def main():
     wrong = [row for row in rows if row.differs != SAME or row.more > options.most]
     print("\n".join([*(row.line for row in wrong), f"{len(rows)} runs, {len(wrong)} of them not as before"]))
     if options.write:
-        page = HERE / "RESULTS.md"
-        page.write_text(own_parts.with_part(page.read_text(), own_parts.TWO_BUILDS, part_of_results(options.write, rows, options.most)))
+        write_results(options.write, rows, options.most)
     return 1 if wrong else 0
 
 
