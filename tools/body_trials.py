@@ -12,9 +12,8 @@ import subprocess
 import tarfile
 from typing import NamedTuple, Optional
 
-from crate_copy import TOP, tracked
+from crates import TOP, below_all, list_files, read_graph
 from leave_out import functions_of
-from pictures import below_all, known_in
 
 TRIED = TOP / "docs/wrong-bodies-tried.txt"
 HEAD = """\
@@ -45,7 +44,7 @@ def git(*words: str) -> str:
 
 def sources_here() -> Sources:
     """The files of the tree that lies here."""
-    return {path: (TOP / path).read_bytes() for path in tracked(*READ)}
+    return {path: (TOP / path).read_bytes() for path in list_files(*READ)}
 
 
 def sources_of(commit: str) -> Sources:
@@ -77,7 +76,7 @@ def digests(sources: Sources) -> dict[str, str]:
     """The digest of each crate that has wrong bodies: of what the prover's verdict on them depends on."""
     listed = sources["crates.txt"].decode()
     lines = {re.split(r"[ :]", line)[0]: line for line in listed.splitlines()}
-    known = known_in(listed)
+    known = read_graph(listed)
     own = {path: data for path, data in sources.items() if path.count("/") > 1 and path.split("/")[2] in OWN}
     seen = {path: seen_from_above(path, data) for path, data in own.items()}
     found = {}

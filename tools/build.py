@@ -15,9 +15,9 @@ import tempfile
 from pathlib import Path
 
 import built
-from crate_copy import TOP, copy_crates
+from crates import TOP, copy_crates
 from kit import program
-from progress import watched
+from progress import run_watched
 
 # The programs that are handed out: they run on every x86-64 processor.
 HANDED_OUT = ("timeweave",)
@@ -25,7 +25,7 @@ HANDED_OUT = ("timeweave",)
 
 def prove(copy, *words):
     """Runs the gate over the copy, shows how far it is, and writes what it says with the paths of this tree into log/build.log; returns its status."""
-    return watched(["rt", "ci", *words], copy, TOP / "log/build.log", lambda line: line.replace(str(copy), str(TOP)))
+    return run_watched(["rt", "ci", *words], copy, "build", lambda line: line.replace(str(copy), str(TOP)))
 
 
 def put(name, copy):
@@ -35,6 +35,9 @@ def put(name, copy):
 
 
 def main():
+    if sys.argv[1:] == ["--help"]:
+        print(Path(__file__).name, __doc__)
+        return 0
     is_of_gate = sys.argv[1:2] == ["--of-gate"]
     names = sys.argv[1 + is_of_gate :]
     if not names or names[0].startswith("-"):

@@ -14,7 +14,7 @@ from pathlib import Path
 import build_library
 import build_page
 from build import prove, put
-from crate_copy import TOP, copy_crates
+from crates import TOP, copy_crates
 from kit import anew, archive
 
 PROGRAMS = ("timeweave", "tree_pages")
@@ -36,6 +36,9 @@ def build_parts(copy):
 
 
 def main():
+    if sys.argv[1:] == ["--help"]:
+        print(Path(__file__).name, __doc__)
+        return 0
     words = sys.argv[1:]
     if words == ["--of-gate"]:
         build_parts(TOP)

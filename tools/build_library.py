@@ -15,7 +15,7 @@ from pathlib import Path
 
 import built
 from build import prove
-from crate_copy import TOP, copy_crates
+from crates import TOP, copy_crates
 from kit import KIT, archive, run
 
 NAME = "timeweave_c"
@@ -47,6 +47,9 @@ def join(made):
 
 
 def main():
+    if sys.argv[1:] == ["--help"]:
+        print(Path(__file__).name, __doc__)
+        return 0
     if sys.argv[1:] == ["--of-gate"]:
         join(archive(TOP, NAME))
         return 0

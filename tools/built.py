@@ -4,16 +4,15 @@ as they were, the file is what a build would make anew: `make build` leaves it, 
 import hashlib
 import shutil
 
-from crate_copy import TOP, tracked
+from crates import TOP, below_all, list_files, read_crates
 from kit import kit_line
-from pictures import below_all, crates
 
 
 def sum_of(names, more=()):
     """The digest of the sources of these crates and of all below them, of more files of the tree, and of the kit's line."""
-    known = crates()
+    known = read_crates()
     needed = set(names).union(*(below_all(name, known) for name in names))
-    paths = [path for path in tracked(*(f"crates/{name}" for name in sorted(needed))) if path.split("/")[2] not in ("must-fail", "wrong-bodies.txt")]
+    paths = [path for path in list_files(*(f"crates/{name}" for name in sorted(needed))) if path.split("/")[2] not in ("must-fail", "wrong-bodies.txt")]
     total = hashlib.sha256(kit_line().encode())
     for path in sorted([*paths, *more, "crates.txt", "HANDLES", "tools/kit.py"]):
         data = (TOP / path).read_bytes()

@@ -21,14 +21,15 @@ from pathlib import Path
 from typing import Dict, Iterable, Iterator, List, NamedTuple, Tuple
 
 import declared
-import pictures
+from command_line import run_script
+from crates import below_all, height, read_crates
 
 TOP = Path(__file__).resolve().parent.parent
 
 HEAD = """# What each clause says
 
-By `python3 tools/claims.py`. Each row is the comment that stands above the clause in the source, to which the function's name leads; where a row and its clause
-disagree, the clause counts. A clause without a row says what a constructor or an accessor gives, a size or range, that something else stays as it was, or what
+By `python3 tools/claims.py`. Each row is the comment that stands above the clause, in the file of `crates` that is named behind the function; where a row and its
+clause disagree, the clause counts. A clause without a row says what a constructor or an accessor gives, a size or range, that something else stays as it was, or what
 an object for tests does; or it says what a record of definitions says, whose own comments have rows then, once, with the functions that say it. What several
 clauses say in the same words stands once, with the names of the others. The words are those of docs/claims.md and docs/definitions.md.
 """
@@ -63,11 +64,11 @@ def records(path: Path) -> Dict[str, Record]:
     """The records of a file of `specs`, by name. Those that fields are of stand before them in the same file."""
     known: Dict[str, Record] = {}
     for above, _, name, fields in RECORD.findall(path.read_text()):
-        known[name] = Record(name, list(told(path, name, above, fields)), [known[of] for _, _, of in FIELD.findall(fields) if of in known])
+        known[name] = Record(name, list(read_claims(path, name, above, fields)), [known[of] for _, _, of in FIELD.findall(fields) if of in known])
     return known
 
 
-def told(path: Path, name: str, above: str, fields: str) -> Iterator[declared.Claim]:
+def read_claims(path: Path, name: str, above: str, fields: str) -> Iterator[declared.Claim]:
     """The claims of a record: that of its own comment, and those of its fields'. A comment is of the fields below it up to the next one."""
     groups: List[Tuple[str, List[str]]] = [(above, [])]
     for comment, field, _ in FIELD.findall(fields):
@@ -144,7 +145,7 @@ def table(rows: Iterable[Row]) -> Iterator[str]:
     yield "| function | clause | what it says |"
     yield "|---|---|---|"
     for (file, function), group in groupby(rows, lambda row: (row.claim.file, row.claim.function)):
-        cell = f"[`{function}`](../{file.relative_to(TOP)})"
+        cell = f"`{function}`, {file.relative_to(TOP / 'crates')}"
         for row in group:
             for clause, words in cells(row):
                 yield f"| {cell} | {clause} | {words} |".replace("|  |", "| |").replace("|  |", "| |")
@@ -153,9 +154,9 @@ def table(rows: Iterable[Row]) -> Iterator[str]:
 
 def claims(is_rest: bool) -> Iterator[Tuple[str, declared.Claim]]:
     """The claims of the crates that commands and the library reach, or of the others, from above down."""
-    known = pictures.crates()
-    reached = {name for user in USED & known.keys() for name in {user} | pictures.below_all(user, known)}
-    for name in sorted(known, key=lambda name: (-pictures.height(name, known), name)):
+    known = read_crates()
+    reached = {name for user in USED & known.keys() for name in {user} | below_all(user, known)}
+    for name in sorted(known, key=lambda name: (-height(name, known), name)):
         of_part = [clause for clause in declared.crates()[name].clauses if is_rest == (name not in reached or bool(FOR_TESTS.match(clause.function)))]
         yield from ((name, claim) for claim in with_records(of_part))
 
@@ -182,4 +183,4 @@ def page(names: List[str]) -> str:
 
 
 if __name__ == "__main__":
-    declared.print_page(page, __doc__)
+    run_script(lambda: declared.print_page(page, __doc__))

@@ -2,11 +2,12 @@
 `specs`. A claim is the plain comment right above a clause of a public function, and says in words what the clause says; the record of which
 a clause may be has its comments where it is defined."""
 
-import argparse
 import re
 from functools import lru_cache
 from pathlib import Path
 from typing import Callable, Dict, Iterable, List, Mapping, NamedTuple, Optional, Set, Tuple
+
+from command_line import reader_of_words
 
 TOP = Path(__file__).resolve().parent.parent
 
@@ -127,7 +128,7 @@ def write_or_print(text: str, path: Optional[Path]) -> None:
 
 def print_page(page: Callable[[List[str]], str], about: Optional[str]) -> None:
     """Writes or prints the page of the crates that the command line names."""
-    words = argparse.ArgumentParser(description=about, formatter_class=argparse.RawDescriptionHelpFormatter)
+    words = reader_of_words(about)
     words.add_argument("crates", nargs="*", metavar="CRATE", help="a crate; all of them if none is named")
     words.add_argument("--to", type=Path, metavar="FILE", help="where it is written, if it isn't printed")
     chosen = words.parse_args()

@@ -13,7 +13,8 @@ from pathlib import Path
 from typing import Iterator, List, NamedTuple
 
 import declared
-import pictures
+from command_line import run_script
+from crates import height, read_crates
 
 TOP = Path(__file__).resolve().parent.parent
 
@@ -38,7 +39,7 @@ def plain(comment: List[str]) -> str:
     return f"{words[:1].upper()}{words[1:]}{'' if words.endswith(('.', ':', '?')) else '.'}" if words else ""
 
 
-def told(lines: List[str]) -> Iterator[Told]:
+def read_words(lines: List[str]) -> Iterator[Told]:
     """What a module tells, in its order: sections as (None, words, 0), definitions, and what has words below them."""
     comment: List[str] = []
     owner = ""
@@ -65,7 +66,7 @@ def module(path: Path) -> Iterator[str]:
     """A module of specs in words: its name, what it is of, and its definitions; nothing where it has none."""
     lines = path.read_text().splitlines()
     head = lines[: next((at for at, line in enumerate(lines) if not line.startswith("--")), len(lines))]
-    found = list(told(lines[len(head) :]))
+    found = list(read_words(lines[len(head) :]))
     if not any(each.name for each in found):
         return
     place = path.relative_to(TOP / "crates").with_suffix("")
@@ -90,11 +91,11 @@ def crate(name: str) -> List[str]:
 
 def page(names: List[str]) -> str:
     """The definitions of these crates, from above down."""
-    known = pictures.crates()
-    order = sorted(names or known, key=lambda name: (-pictures.height(name, known), name))
+    known = read_crates()
+    order = sorted(names or known, key=lambda name: (-height(name, known), name))
     lines = ["# The definitions, one by one", "", "By `python3 tools/definitions.py`, of the comments in `crates/*/specs`; docs/definitions.md says in which order to read them.", ""]
     return "\n".join(lines + [line for name in order for line in crate(name)])
 
 
 if __name__ == "__main__":
-    declared.print_page(page, __doc__)
+    run_script(lambda: declared.print_page(page, __doc__))

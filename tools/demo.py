@@ -3,47 +3,33 @@
 
     python3 tools/demo.py       `make demo` calls it so
 
-Where the kit isn't there, which proves and builds, it ends behind the first part, and says what is missing. How long the building took is kept in
-log/demo.json, and told before the next time. Status 0: all that could be shown was.
+Where the kit isn't there, which proves and builds, it ends behind the first part, and says what is missing. How long the building took
+last time is told before it. Status 0: all that could be shown was.
 """
 
-import argparse
-import json
 import os
 import shutil
 import subprocess
 import sys
 import tempfile
-import time
 from pathlib import Path
 
+from command_line import reader_of_words, run_script
 import look
+import progress
 import proved_by
 
 TOP = Path(__file__).resolve().parent.parent
 PROGRAM = TOP / "bin/timeweave"
-TOOK = TOP / "log/demo.json"
 EXAMPLES = ("two_services", "archived_threads", "chain_of_three", "event_chain", "audited_chain")
 
 
-def minutes_told():
+def describe_minutes():
     """How long the building took here last time, as a sentence."""
-    try:
-        minutes = json.loads(TOOK.read_text())["seconds"] / 60
-    except (OSError, ValueError, KeyError):
+    minutes = progress.read_minutes("build")
+    if minutes is None:
         return "How long that takes here isn't known yet: mostly half an hour to an hour."
-    return f"Here it took {minutes:.0f} minutes last time; where nothing has changed since, it takes none."
-
-
-def build():
-    """Proves and builds the program; the status."""
-    began = time.monotonic()
-    was_built = PROGRAM.exists() and PROGRAM.stat().st_mtime
-    status = subprocess.run([sys.executable, TOP / "tools/build.py", "timeweave"], check=False).returncode
-    if status == 0 and PROGRAM.stat().st_mtime != was_built:
-        TOOK.parent.mkdir(exist_ok=True)
-        TOOK.write_text(json.dumps({"seconds": round(time.monotonic() - began)}) + "\n")
-    return status
+    return f"Here it took {minutes} minutes last time; where nothing has changed since, it takes none."
 
 
 def said_by(commands, settings):
@@ -73,15 +59,15 @@ def compare():
 
 def main():
     """Shows all of it; the status to end with."""
-    argparse.ArgumentParser(description=__doc__, formatter_class=argparse.RawDescriptionHelpFormatter).parse_args()
+    reader_of_words(__doc__).parse_args()
     print(f"First, by the second implementation.\n{look.MARK}.\n", flush=True)
     if not look.show(is_quiet=False):
         return 1
     if shutil.which("rt") is None:
         print(f"\nThat was all: to prove and build the program takes the kit {proved_by.proved_by().name}, the command `rt`, which isn't on the path.")
         return 0
-    print(f"\nNow the program is proved and built: every proof below it is checked. {minutes_told()}", flush=True)
-    status = build()
+    print(f"\nNow the program is proved and built: every proof below it is checked. {describe_minutes()}", flush=True)
+    status = subprocess.run([sys.executable, TOP / "tools/build.py", "timeweave"], check=False).returncode
     if status:
         return status
     print("\nThe same by the proved program.\n", flush=True)
@@ -93,4 +79,4 @@ def main():
 
 
 if __name__ == "__main__":
-    sys.exit(main())
+    run_script(main)

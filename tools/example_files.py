@@ -15,6 +15,7 @@ from typing import Callable, Dict, List, Sequence, Tuple
 TOP = Path(__file__).resolve().parent.parent
 sys.path.insert(0, str(TOP / "reference"))
 
+from command_line import reader_of_words, run_script  # noqa: E402
 from timeweave_reference.anchors import Anchor, anchors_to_bytes  # noqa: E402
 from timeweave_reference.archives import listed  # noqa: E402
 from timeweave_reference.atlases import Hop  # noqa: E402
@@ -336,13 +337,15 @@ EXAMPLES: Dict[str, Callable[[], Contents]] = {
 
 
 def main() -> int:
-    if len(sys.argv) != 3 or sys.argv[1] not in EXAMPLES:
-        print(__doc__)
-        return 2
-    for name, data in EXAMPLES[sys.argv[1]]().items():
-        (Path(sys.argv[2]) / name).write_bytes(data)
+    """Writes the files."""
+    words = reader_of_words(__doc__)
+    words.add_argument("example", choices=EXAMPLES, metavar="NAME", help="the example")
+    words.add_argument("folder", type=Path, metavar="FOLDER", help="where its files are written")
+    told = words.parse_args()
+    for name, data in EXAMPLES[told.example]().items():
+        (told.folder / name).write_bytes(data)
     return 0
 
 
 if __name__ == "__main__":
-    sys.exit(main())
+    run_script(main)

@@ -14,6 +14,7 @@ from pathlib import Path
 TOP = Path(__file__).resolve().parent.parent
 sys.path.insert(0, str(TOP / "reference"))
 
+from command_line import reader_of_words, run_script  # noqa: E402
 from timeweave_reference import words  # noqa: E402
 
 # Words of which the README says nothing: the manual page has them.
@@ -123,7 +124,10 @@ def differences():
 
 
 def main():
-    if sys.argv[1:] == ["--check"]:
+    """Writes the forms, or tells where they differ."""
+    words_of_line = reader_of_words(__doc__)
+    words_of_line.add_argument("--check", action="store_true", help="write nothing, and tell where they differ")
+    if words_of_line.parse_args().check:
         found = list(differences())
         print("\n".join(found), end="\n" * bool(found))
         return 1 if found else 0
@@ -133,4 +137,4 @@ def main():
 
 
 if __name__ == "__main__":
-    sys.exit(main())
+    run_script(main)

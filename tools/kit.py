@@ -5,7 +5,7 @@ import re
 import subprocess
 from pathlib import Path
 
-from pictures import below_all, crates, lines_of
+from crates import TOP, below_all, read_crates, read_lines
 
 # Where the kit lies.
 KIT = Path(subprocess.run(["rt", "doc"], check=True, capture_output=True, text=True).stdout.strip()).parent
@@ -30,7 +30,7 @@ def run(*words, **settings):
 
 def words_for(copy, name, kit, jobs=2):
     """The words with which the compiler finds the crates below this one, as the gate has built them."""
-    known, uses = crates(), dict(lines_of("crates.txt"))[name]
+    known, uses = read_crates(), dict(read_lines((TOP / "crates.txt").read_text()))[name]
     rlib = lambda it: copy / "crates" / it / f"out/rlib/{it}.rlib" if it in known else kit / f"rlibs/{it}.rlib"  # noqa: E731
     words = ["--crate-name", name, "--extern", f"std={kit}/rlibs/std.rlib", "-L", f"dependency={kit}/rlibs"]
     for it in sorted(uses):

@@ -16,7 +16,8 @@ import sys
 from collections import defaultdict
 from pathlib import Path
 
-from pictures import TOP, crates
+from command_line import reader_of_words, run_script
+from crates import TOP, read_crates
 
 # The line of an edit behind which stands what it leaves out.
 BEGINS = "what it leaves out, by tools/leave_out.py:"
@@ -268,7 +269,7 @@ def trim_uses(edit, module, kept, names):
         ways = [place + tuple(begin[:size]) for size in range(1, len(begin) + 1) for place in ((), module, module[:-1])]
         inner = re.sub(r"\s+", " ", use.partition("{")[2].rpartition("}")[0] if "{" in use else use.strip(";")).split(",")
         said = [re.sub(r" as .*", "", part).split("::")[-1].strip() for part in inner if part.strip()]
-        is_gone = any(way in crate.files and way not in kept.modules for way in ways) or begin and begin[0] not in crates() and all(it in names for it in said)
+        is_gone = any(way in crate.files and way not in kept.modules for way in ways) or begin and begin[0] not in read_crates() and all(it in names for it in said)
         if is_gone:
             edit.hide(path, first)
             continue
@@ -323,10 +324,14 @@ def whole(path):
 
 
 def main():
-    is_list = "--list" in sys.argv
-    for name in [word for word in sys.argv[1:] if word != "--list"] or crates():
+    """Writes what is left out, or tells how much it is."""
+    words = reader_of_words(__doc__)
+    words.add_argument("names", nargs="*", metavar="NAME", help="a crate; all of them if none is named")
+    words.add_argument("--list", action="store_true", help="write nothing, and tell how many functions each leaves in")
+    told = words.parse_args()
+    for name in told.names or read_crates():
         for path in edits(name):
-            if is_list:
+            if told.list:
                 crate = Crate(name)
                 lines, count = leave_out(crate, body_of(path.read_text())) or ([], len(crate.functions))
                 print(f"{name}/{path.name}: {count} of {len(crate.functions)} functions, {len(lines)} lines")
@@ -335,4 +340,4 @@ def main():
 
 
 if __name__ == "__main__":
-    main()
+    run_script(main)

@@ -7,14 +7,14 @@
 Nothing is built and nothing is installed; what it makes goes into a folder that is deleted at the end. Status 0: all ended as they had to.
 """
 
-import argparse
 import os
 import re
 import shutil
 import subprocess
-import sys
 import tempfile
 from pathlib import Path
+
+from command_line import reader_of_words, run_script
 
 TOP = Path(__file__).resolve().parent.parent
 PROGRAM = TOP / "reference/bin/timeweave-unproved"
@@ -85,7 +85,7 @@ def show(is_quiet):
 
 def main():
     """Shows the examples; the status to end with."""
-    parser = argparse.ArgumentParser(description=__doc__, formatter_class=argparse.RawDescriptionHelpFormatter)
+    parser = reader_of_words(__doc__)
     parser.add_argument("--quiet", action="store_true", help="prints the outputs alone")
     options = parser.parse_args()
     if not options.quiet:
@@ -94,4 +94,4 @@ def main():
 
 
 if __name__ == "__main__":
-    sys.exit(main())
+    run_script(main)

@@ -11,12 +11,14 @@ import sys
 import textwrap
 from itertools import groupby
 from pathlib import Path
-from typing import Dict, List, Set, Tuple
+from typing import List
 
 TOP = Path(__file__).resolve().parent.parent
 sys.path[:0] = [str(TOP / "tools"), str(TOP / "reference")]
 
 import declared  # noqa: E402
+from command_line import reader_of_words, run_script  # noqa: E402
+from crates import height, read_crates  # noqa: E402
 from example_files import ENTRY, SHOP, bounds, least_way, ledger_and_notary  # noqa: E402
 from timeweave_reference.archives import EMPTY, Entry, Node, absent, tree_proof, with_leaf  # noqa: E402
 from timeweave_reference.event_trees import audit_path, event_root  # noqa: E402
@@ -38,39 +40,6 @@ def short(digest):
 # ---- the crates
 
 
-def lines_in(text: str) -> List[Tuple[str, List[str]]]:
-    """Each line of a list of crates: a name, and what it stands on."""
-    pairs = [line.split(":") for line in text.splitlines() if not line.startswith("#")]
-    return [(name.split()[0], uses.split()) for name, uses in pairs]
-
-
-def lines_of(path: str) -> List[Tuple[str, List[str]]]:
-    """The lines of a list of crates that is a file of the tree."""
-    return lines_in((TOP / path).read_text())
-
-
-def known_in(text: str) -> Dict[str, List[str]]:
-    """Each crate of a list with those of it that it stands on."""
-    lines = lines_in(text)
-    names = {name for name, _ in lines}
-    return {name: [below for below in uses if below in names] for name, uses in lines}
-
-
-def crates() -> Dict[str, List[str]]:
-    """Each crate with those of this repository that it stands on."""
-    return known_in((TOP / "crates.txt").read_text())
-
-
-def height(name: str, known: Dict[str, List[str]]) -> int:
-    """How many crates the longest chain down from a crate has."""
-    return 1 + max((height(below, known) for below in known[name]), default=0)
-
-
-def below_all(name: str, known: Dict[str, List[str]]) -> Set[str]:
-    """The crates that a crate reaches."""
-    return {reached for below in known[name] for reached in {below} | below_all(below, known)}
-
-
 def in_short(words: str, most: int = 12) -> str:
     """The first sentence; what it says behind a colon is left out where it has more words."""
     first = words.partition(". ")[0].rstrip(".")
@@ -79,7 +48,7 @@ def in_short(words: str, most: int = 12) -> str:
 
 def crate_list() -> List[str]:
     """The crates by their height, each with what its root file says first that it is."""
-    known = crates()
+    known = read_crates()
     lines: List[str] = []
     by_height = sorted(known, key=lambda name: (-height(name, known), name))
     for level, names in groupby(by_height, lambda name: height(name, known)):
@@ -139,7 +108,7 @@ def tree():
 # ---- bytes
 
 
-def shown(part):
+def show_bytes(part):
     """The bytes of a field, in fours: of a long one the first eight, of a long one of equal bytes the first."""
     if len(part) <= 8:
         return part.hex(" ", -4)
@@ -150,7 +119,7 @@ def dumped(data, fields):
     """The bytes of the fields, each (size, what it is): place, bytes, size and meaning; and how many bytes they have."""
     lines, at = [], 0
     for size, meaning in fields:
-        lines.append(f"{at:4}  {shown(data[at : at + size]):<20}{size:4}  {meaning}")
+        lines.append(f"{at:4}  {show_bytes(data[at : at + size]):<20}{size:4}  {meaning}")
         at += size
     return lines, at
 
@@ -383,13 +352,17 @@ def differing():
 
 
 def main():
-    if sys.argv[1:] == ["--check"]:
-        print("\n".join(differing()))
-        return 1 if differing() else 0
+    """Draws the pictures anew, or tells those that differ."""
+    words = reader_of_words(__doc__)
+    words.add_argument("--check", action="store_true", help="tell those that differ, and write nothing")
+    if words.parse_args().check:
+        wrong = differing()
+        print("\n".join(wrong))
+        return 1 if wrong else 0
     for path in sorted((TOP / "docs").glob("*.md")):
         path.write_text(drawn(path.read_text()))
     return 0
 
 
 if __name__ == "__main__":
-    sys.exit(main())
+    run_script(main)

@@ -6,13 +6,14 @@
     python3 tools/proved_by.py --write    names the kit at hand in KIT, README.md and NOTICE, once the gate has passed by it
 """
 
-import argparse
 import re
 import shutil
 import subprocess
 import sys
 from pathlib import Path
 from typing import List, NamedTuple, Optional
+
+from command_line import reader_of_words, run_script
 
 TOP = Path(__file__).resolve().parent.parent
 FILE = TOP / "KIT"
@@ -82,7 +83,7 @@ def write(kit: Kit) -> None:
 
 def main() -> int:
     """Says how they stand; the status to end with."""
-    words = argparse.ArgumentParser(description=__doc__, formatter_class=argparse.RawDescriptionHelpFormatter)
+    words = reader_of_words(__doc__)
     words.add_argument("--write", action="store_true", help="names the kit at hand in all three")
     found = at_hand()
     if words.parse_args().write:
@@ -97,4 +98,4 @@ def main() -> int:
 
 
 if __name__ == "__main__":
-    sys.exit(main())
+    run_script(main)

@@ -8,11 +8,9 @@ is passed over. Types of code that stand in two files under one name are counted
 
 import collections
 import re
-from pathlib import Path
 
-import twins
-
-TOP = Path(__file__).resolve().parent.parent
+from command_line import reader_of_words, run_script
+from crates import TOP, list_files
 
 # The fewest words and signs of a body of a definition, and of a function.
 LEAST, LEAST_IN_CODE = 8, 14
@@ -107,12 +105,12 @@ def several(places):
     return sorted(sorted(where) for where in places.values() if len(where) > 1)
 
 
-def found(top=TOP):
+def find_twice():
     """What has one body and two names in specs, and in code; and the names of types in two files of code."""
     specs, code, types = (collections.defaultdict(set) for _ in range(3))
-    for place in twins.names(top):
-        path = top / place
-        if not place.startswith("crates/") or not path.is_file() or place.split("/")[1].endswith("tests"):
+    for place in list_files("crates"):
+        path = TOP / place
+        if place.split("/")[1].endswith("tests"):
             continue
         short = place.removeprefix("crates/")
         if "/specs/" in place and "/contracts/" not in place:
@@ -127,18 +125,19 @@ def found(top=TOP):
     return several(specs), several(code), several(types)
 
 
-def told(where):
+def name_places(where):
     """The names, each with its file."""
     return ", ".join(f"{name} ({place})" for name, place in where)
 
 
 def main():
     """Prints what was found."""
-    for title, places in zip(("definitions with one body", "functions with one body", "names of two types of code"), found()):
+    reader_of_words(__doc__).parse_args()
+    for title, places in zip(("definitions with one body", "functions with one body", "names of two types of code"), find_twice()):
         print(f"{len(places)} {title}")
         for where in places:
-            print(f"  {told(where)}")
+            print(f"  {name_places(where)}")
 
 
 if __name__ == "__main__":
-    main()
+    run_script(main)

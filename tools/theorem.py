@@ -9,13 +9,13 @@ The clauses begin it. What they name is looked up through the imports of crates/
 a list with their meanings. One definition is named and not shown: the list of the texts of which two clash. What stands around the definitions is here.
 """
 
-import argparse
 import re
-import sys
 import textwrap
 from functools import lru_cache
 from pathlib import Path
 from typing import Dict, Iterable, Iterator, List, NamedTuple, Optional, Set, Tuple
+
+from command_line import reader_of_words, run_script
 
 TOP = Path(__file__).resolve().parent.parent
 PAGE = TOP / "docs/theorem.md"
@@ -303,7 +303,7 @@ def wrapped(line: str) -> List[str]:
     return [line[:at], *wrapped(" " * (indent_of(line) + 4) + line[at + 1 :])]
 
 
-def shown(definition: Definition) -> List[str]:
+def show_definition(definition: Definition) -> List[str]:
     """A definition as the page has it: without the words that say who may use it, and without the block that it stands in."""
     least = min(indent_of(line) for line in definition.lines)
     lines = [line[least:] for line in (*definition.comment, *definition.lines)]
@@ -314,7 +314,7 @@ def shown(definition: Definition) -> List[str]:
 def of_module(name: str, found: Closure) -> List[List[str]]:
     """What of a module is shown, in its order."""
     home = module(f"Rattle.{name.replace('/', '.')}")
-    return [shown(definition) for definition in home.definitions.values() if (home.name, definition.name) in found.shown] if home else []
+    return [show_definition(definition) for definition in home.definitions.values() if (home.name, definition.name) in found.shown] if home else []
 
 
 def clause_of(path: str, function: str, name: str) -> str:
@@ -603,7 +603,7 @@ def stale() -> List[str]:
 
 def main() -> int:
     """Writes the page and the table, or checks them."""
-    words = argparse.ArgumentParser(description=__doc__, formatter_class=argparse.RawDescriptionHelpFormatter)
+    words = reader_of_words(__doc__)
     words.add_argument("--check", action="store_true", help="writes nothing; tells what differs, and the sizes")
     if not words.parse_args().check:
         PAGE.write_text(page())
@@ -615,4 +615,4 @@ def main() -> int:
 
 
 if __name__ == "__main__":
-    sys.exit(main())
+    run_script(main)

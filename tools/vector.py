@@ -52,17 +52,17 @@ class Vector:
         return {"name": self.name, "words": list(self.words), "files": files, "status": self.status, **output}
 
 
-def asked(name: str, words: Sequence[str], files: Dict[str, bytes]) -> Vector:
+def make_vector(name: str, words: Sequence[str], files: Dict[str, bytes]) -> Vector:
     """The vector of these words over files, as the reference answers them; of what is no command, as its function does."""
     function = FUNCTIONS.get(words[0])
     answer = function(*(files[word] for word in words[1:])) if function else commands.answer(words, files)
     return Vector(name, tuple(words), files, answer.status, answer.text)
 
 
-def judged(name: str, proof: bytes, lines: "Lines | bytes", form: str = "verify") -> Vector:
+def make_proof_vector(name: str, proof: bytes, lines: "Lines | bytes", form: str = "verify") -> Vector:
     """The vector of a proof under lines, in the form `verify` or `strict`."""
     data = lines if isinstance(lines, bytes) else anchors_to_bytes(lines)
-    return asked(name, [form, "proof", "anchors"], {"proof": proof, "anchors": data})
+    return make_vector(name, [form, "proof", "anchors"], {"proof": proof, "anchors": data})
 
 
 def over(data: bytes, place: int, new: bytes) -> bytes:
@@ -79,8 +79,8 @@ def flipped(data: bytes, place: int) -> bytes:
 def cuts(data: bytes, lines: Lines, places: Sequence[int]) -> Iterator[Vector]:
     """The front of a proof up to some places, and the proof with a byte behind it."""
     for place in places:
-        yield judged(f"cut to {place} bytes", data[:place], lines)
-    yield judged("a byte behind it", data + b"\0", lines)
+        yield make_proof_vector(f"cut to {place} bytes", data[:place], lines)
+    yield make_proof_vector("a byte behind it", data + b"\0", lines)
 
 
 # ---- steps of long histories

@@ -9,7 +9,6 @@ the same bytes each time; vectors/README.md tells what stands in them.
 from __future__ import annotations
 
 import json
-import sys
 from pathlib import Path
 from typing import Callable, Dict, Iterator, List, Tuple
 
@@ -17,6 +16,7 @@ import vectors_of_contradictions as of_contradictions
 import vectors_of_files as of_files
 import vectors_of_proofs as of_proofs
 import vectors_of_rules as of_rules
+from command_line import reader_of_words, run_script
 from vector import TOP, Vector
 
 from timeweave_reference.fields import LAST_STEP
@@ -84,8 +84,9 @@ def contents() -> Iterator[Tuple[Path, str]]:
 
 def main() -> int:
     """Writes the files, or tells which are others."""
-    is_check = sys.argv[1:] == ["--check"]
-    status = 0
+    words = reader_of_words(__doc__)
+    words.add_argument("--check", action="store_true", help="tell which files are others, and write nothing")
+    is_check, status = words.parse_args().check, 0
     for path, text in contents():
         if not is_check:
             path.write_text(text)
@@ -96,4 +97,4 @@ def main() -> int:
 
 
 if __name__ == "__main__":
-    sys.exit(main())
+    run_script(main)

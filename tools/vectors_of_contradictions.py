@@ -5,7 +5,7 @@ from __future__ import annotations
 from functools import lru_cache
 from typing import Iterator, Sequence, Tuple
 
-from vector import Lines, Vector, asked, flipped
+from vector import Lines, Vector, flipped, make_vector
 from vectors_of_proofs import DIGEST
 
 from timeweave_reference.anchors import Anchor, anchors_to_bytes
@@ -69,7 +69,7 @@ def pair(name: str, first: File, second: File, joined: bytes = b"") -> Vector:
     """The vector of two files, and a link or no bytes of one."""
     lines = [anchors_to_bytes(file[1]) for file in (first, second)]
     files = {"first": first[0], "first_anchors": lines[0], "second": second[0], "second_anchors": lines[1], "link": joined}
-    return asked(name, ["contradict", *files], files)
+    return make_vector(name, ["contradict", *files], files)
 
 
 def accepted() -> Iterator[Vector]:
@@ -134,7 +134,7 @@ def bad_lines(good: Sequence[File]) -> Iterator[Vector]:
     for name, first, second in (("of the first", b"bank", None), ("of the second", None, b"bank 6"), ("of both", b"x", b"x")):
         lines = [other if other is not None else anchors_to_bytes(file[1]) for file, other in zip(good, (first, second))]
         files = {"first": b"", "first_anchors": lines[0], "second": b"", "second_anchors": lines[1], "link": b""}
-        yield asked(f"bad lines {name}", ["contradict", *files], files)
+        yield make_vector(f"bad lines {name}", ["contradict", *files], files)
 
 
 def contradictions() -> Iterator[Vector]:

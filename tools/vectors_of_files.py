@@ -10,7 +10,7 @@ from example_files import (
     CHAIN, ENTRY, SHOP, Fork, Peer, audited_chain, high_of, ledger_and_notary, line_of, lost, low_of, receipt_of, receipts_of,
     thread_of, three_histories, two_histories, with_events,
 )
-from vector import Lines, Vector, asked, flipped, over
+from vector import Lines, Vector, flipped, make_vector, over
 from vectors_of_proofs import DIGEST, TIMED, bank, event_of, line_at, row
 
 from timeweave_reference.anchors import Anchor, anchors_to_bytes
@@ -35,7 +35,7 @@ def numbered(front: str, files: Sequence[bytes]) -> Dict[str, bytes]:
 def joined(name: str, *parts: bytes) -> Vector:
     """The vector of parts that are joined."""
     files = numbered("part", parts)
-    return asked(name, ["join", *files], files)
+    return make_vector(name, ["join", *files], files)
 
 
 def joins() -> Iterator[Vector]:
@@ -63,7 +63,7 @@ def joins() -> Iterator[Vector]:
 
 def mapped(name: str, low: bytes, high: bytes, lines: Lines) -> Vector:
     """The vector of two map files under lines."""
-    return asked(name, ["checkmap", "low", "high", "anchors"], {"low": low, "high": high, "anchors": anchors_to_bytes(lines)})
+    return make_vector(name, ["checkmap", "low", "high", "anchors"], {"low": low, "high": high, "anchors": anchors_to_bytes(lines)})
 
 
 def accepted_maps() -> Iterator[Vector]:
@@ -113,8 +113,8 @@ def rejected_maps() -> Iterator[Vector]:
     yield mapped("a byte behind the high file", low, high + b"\0", held)
     yield mapped("a low file of step 1 with a byte behind", first[0] + b"\0", first[1], held)
     yield mapped("both files bad", b"", b"TWP1", held)
-    yield asked("a bad file, and a bad line", ["checkmap", "low", "high", "anchors"], {"low": low, "high": b"TWP1", "anchors": b"x"})
-    yield asked("a bad line", ["checkmap", "low", "high", "anchors"], {"low": low, "high": high, "anchors": b"ledger 4"})
+    yield make_vector("a bad file, and a bad line", ["checkmap", "low", "high", "anchors"], {"low": low, "high": b"TWP1", "anchors": b"x"})
+    yield make_vector("a bad line", ["checkmap", "low", "high", "anchors"], {"low": low, "high": high, "anchors": b"ledger 4"})
 
 
 def maps() -> Iterator[Vector]:
@@ -129,7 +129,7 @@ def maps() -> Iterator[Vector]:
 def checked(name: str, data: bytes, lines: "Lines | bytes") -> Vector:
     """The vector of evidence under lines."""
     file = lines if isinstance(lines, bytes) else anchors_to_bytes(lines)
-    return asked(name, ["checkfork", "evidence", "anchors"], {"evidence": data, "anchors": file})
+    return make_vector(name, ["checkfork", "evidence", "anchors"], {"evidence": data, "anchors": file})
 
 
 def evidence_of(fork: Fork) -> Evidence:
@@ -183,7 +183,7 @@ def second_path(fork: Fork, step: int) -> "Tuple[PathLink, ...]":
 def accusing(name: str, *parts: bytes) -> Vector:
     """The vector of parts of which evidence is made."""
     files = dict(zip(("first", "second", "link"), parts))
-    return asked(name, ["accuse", *files], files)
+    return make_vector(name, ["accuse", *files], files)
 
 
 def accusations() -> Iterator[Vector]:
@@ -203,9 +203,9 @@ def accusations() -> Iterator[Vector]:
 # ---- histories
 
 
-def shown(name: str, data: bytes, step: int, index: int) -> Vector:
+def make_show_vector(name: str, data: bytes, step: int, index: int) -> Vector:
     """The vector of an event of a history that is shown."""
-    return asked(name, ["show", "history", str(step), str(index)], {"history": data})
+    return make_vector(name, ["show", "history", str(step), str(index)], {"history": data})
 
 
 def unsound() -> Iterator[Tuple[int, str, List[Step]]]:
@@ -228,24 +228,24 @@ def shows() -> Iterator[Vector]:
     """Events that are shown, events and steps that aren't there, rules that are broken, and bytes that are none."""
     files = {name: history.to_bytes() for name, history in (("bank", bank()), ("lost", lost()), ("ledger", ledger_and_notary()[0]))}
     for name, step, index in (("bank", 1, 0), ("bank", 11, 0), ("lost", 5, 4), ("ledger", 3, 0)):
-        yield shown(f"event {index} of step {step} of {name}", files[name], step, index)
+        yield make_show_vector(f"event {index} of step {step} of {name}", files[name], step, index)
     for step, index in ((0, 0), (13, 0), (2, 0), (1, 1), (2**40, 0)):
-        yield shown(f"event {index} of step {step}, which isn't there", files["bank"], step, index)
-    yield shown("a history of no steps", history_to_bytes("a", []), 1, 0)
+        yield make_show_vector(f"event {index} of step {step}, which isn't there", files["bank"], step, index)
+    yield make_show_vector("a history of no steps", history_to_bytes("a", []), 1, 0)
     for rule, name, steps in unsound():
-        yield shown(f"rule {rule}, {name}", history_to_bytes("a", steps), 1, 0)
+        yield make_show_vector(f"rule {rule}, {name}", history_to_bytes("a", steps), 1, 0)
     data = history_to_bytes("a", [Step([b""])])
     thread = history_to_bytes("a", [Step(thread=Thread("b", 258, bytes(32)), nodes=[NodeRow(0, 1, 0)], root=1)])
     for name, place, digits in (
         ("another first letter", 0, "74"), ("no name", 4, "00"), ("2^40 steps", 22, "01"), ("kind 0", 28, "00"), ("kind 5", 28, "05"),
         ("a size of 1025", 35, "0401"), ("1025 events", 31, "0401"),
     ):
-        yield shown(name, over(data, place, bytes.fromhex(digits)), 1, 0)
+        yield make_show_vector(name, over(data, place, bytes.fromhex(digits)), 1, 0)
     changes = (("a thread of step 0", 51, "0000"), ("two nodes where one is", 86, "02"), ("a node of a step that isn't there", 93, "01"))
     for name, place, digits in changes:
-        yield shown(name, over(thread, place, bytes.fromhex(digits)), 1, 0)
-    yield shown("cut", data[:-1], 1, 0)
-    yield shown("a byte behind", data + b"\0", 1, 0)
+        yield make_show_vector(name, over(thread, place, bytes.fromhex(digits)), 1, 0)
+    yield make_show_vector("cut", data[:-1], 1, 0)
+    yield make_show_vector("a byte behind", data + b"\0", 1, 0)
 
 
 @lru_cache(maxsize=None)
@@ -271,7 +271,7 @@ def histories() -> List[Dict[str, object]]:
 def audited(name: str, proof: bytes, lines: bytes, *histories: bytes) -> Vector:
     """The vector of a proof that is held against histories."""
     files = numbered("history", histories)
-    return asked(name, ["audit", "proof", "anchors", *files], {"proof": proof, "anchors": lines, **files})
+    return make_vector(name, ["audit", "proof", "anchors", *files], {"proof": proof, "anchors": lines, **files})
 
 
 def audits() -> Iterator[Vector]:
@@ -296,7 +296,7 @@ def audits() -> Iterator[Vector]:
 def taken(name: str, history: bytes, lines: Lines, *proofs: bytes) -> Vector:
     """The vector of a history that is taken over by proofs."""
     files = numbered("proof", proofs)
-    return asked(name, ["adopt", "history", "anchors", *files], {"history": history, "anchors": anchors_to_bytes(lines), **files})
+    return make_vector(name, ["adopt", "history", "anchors", *files], {"history": history, "anchors": anchors_to_bytes(lines), **files})
 
 
 def adoptions() -> Iterator[Vector]:
@@ -321,7 +321,7 @@ def adoptions() -> Iterator[Vector]:
 def reached(name: str, service: str, step: int, *files: bytes) -> Vector:
     """The vector of an atlas."""
     named = numbered("receipts", files)
-    return asked(name, ["atlas", service, str(step), *named], named)
+    return make_vector(name, ["atlas", service, str(step), *named], named)
 
 
 def atlases() -> Iterator[Vector]:

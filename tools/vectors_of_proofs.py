@@ -7,7 +7,7 @@ from functools import lru_cache
 from typing import Iterator, List, Tuple
 
 from example_files import SHOP, least_way, three_histories, two_histories
-from vector import Deep, Lines, Vector, asked, cuts, flipped, judged, over
+from vector import Deep, Lines, Vector, cuts, flipped, make_proof_vector, make_vector, over
 
 from timeweave_reference.anchors import Anchor
 from timeweave_reference.archives import listed
@@ -48,19 +48,19 @@ def event_of(line: Timeline, step: int, index: int, top: int) -> bytes:
 
 def accepted_events() -> Iterator[Vector]:
     """Paths of no link to several, trees of few events to many, the least and the largest events and names, and times."""
-    yield judged("the least proof", event_of(LEAST, 1, 0, 1), line_at(LEAST, 1))
+    yield make_proof_vector("the least proof", event_of(LEAST, 1, 0, 1), line_at(LEAST, 1))
     for step, top in ((13, 13), (12, 13), (5, 13), (1, 13), (8, 13), (8, 8), (1, 8), (9, 12), (6, 7)):
-        yield judged(f"step {step} under {top}", event_of(SHOP, step, top % 3, top), line_at(SHOP, top))
+        yield make_proof_vector(f"step {step} under {top}", event_of(SHOP, step, top % 3, top), line_at(SHOP, top))
     for count, indices in ((2, (0, 1)), (3, (0, 2)), (5, (3, 4)), (8, (0, 7)), (1024, (0, 777, 1023))):
         line = Timeline("trees", [[b"%d" % index for index in range(count)]])
         for index in indices:
-            yield judged(f"event {index} of {count}", event_of(line, 1, index, 1), line_at(line, 1))
+            yield make_proof_vector(f"event {index} of {count}", event_of(line, 1, index, 1), line_at(line, 1))
     for name in ("0", "-", "sixteen-letters0"):
         line = Timeline(name, [[b"\x00", bytes(1024), b"\xff\n"]])
         for index in range(3):
-            yield judged(f"of a service {name}, {len(line.events(1)[index])} bytes", event_of(line, 1, index, 1), line_at(line, 1))
+            yield make_proof_vector(f"of a service {name}, {len(line.events(1)[index])} bytes", event_of(line, 1, index, 1), line_at(line, 1))
     for step in range(1, 6):
-        yield judged(f"step {step} of a history with times", event_of(TIMED, step, 0, 5), line_at(TIMED, 5))
+        yield make_proof_vector(f"step {step} of a history with times", event_of(TIMED, step, 0, 5), line_at(TIMED, 5))
 
 
 def deep_events() -> Iterator[Vector]:
@@ -69,7 +69,7 @@ def deep_events() -> Iterator[Vector]:
     for step, top in ((1, LAST_STEP), (2**39 + 1, LAST_STEP), (2**39, 2**39), (LAST_STEP, LAST_STEP)):
         deep = Deep(step, top, EMPTY_ARCHIVE, events, LAST_STEP if step == 1 else None)
         proof = ExistenceProof("sixteen-letters0", step, top, deep.path, deep.opening, event_part(events, 777))
-        yield judged(f"step {step} under {top}", proof.to_bytes(), {proof.service: Anchor(top, deep.reached)})
+        yield make_proof_vector(f"step {step} under {top}", proof.to_bytes(), {proof.service: Anchor(top, deep.reached)})
 
 
 def rejected_events() -> Iterator[Vector]:
@@ -77,28 +77,28 @@ def rejected_events() -> Iterator[Vector]:
     proof, held = existence_proof(SHOP, 5, 1, 13), line_at(SHOP, 13)
     data = proof.to_bytes()
     above = existence_proof(SHOP, 13, 1, 5).to_bytes()
-    yield judged("a step above the top", above, line_at(SHOP, 5))
-    yield judged("a step above the top, and no line", above, {})
-    yield judged("no line", data, {})
-    yield judged("a line of another service", data, {"sho": held["shop"], "shopp": held["shop"]})
-    yield judged("a line of another step", data, line_at(SHOP, 12))
-    yield judged("another authenticator", data, {"shop": Anchor(13, DIGEST)})
-    yield judged("the line among others", data, {"a": Anchor(1, DIGEST), **held, "zz-9": Anchor(LAST_STEP, DIGEST)})
-    yield judged("another datum in the path", flipped(data, 37), held)
-    yield judged("another label in the path", flipped(data, 37 + 64), held)
-    yield judged("another event root in the opening", replace(proof, opening=replace(proof.opening, event_root=DIGEST)).to_bytes(), held)
-    yield judged("another archive label in the opening", replace(proof, opening=replace(proof.opening, archive_label=DIGEST)).to_bytes(), held)
-    yield judged("another count", replace(proof, opening=replace(proof.opening, count=4)).to_bytes(), held)
-    yield judged("a time put on", replace(proof, opening=replace(proof.opening, time=0)).to_bytes(), held)
-    yield judged("another authenticator before", replace(proof, opening=replace(proof.opening, before=DIGEST)).to_bytes(), held)
-    yield judged("another event", replace(proof, event=replace(proof.event, event=b"order 5.2")).to_bytes(), held)
-    yield judged("another index", replace(proof, event=replace(proof.event, index=0)).to_bytes(), held)
-    yield judged("another label of the event's path", flipped(data, -1), held)
-    yield judged("another event, and no line", flipped(data, -1), {})
-    yield judged("another event, and another authenticator", flipped(data, -1), {"shop": Anchor(13, DIGEST)})
+    yield make_proof_vector("a step above the top", above, line_at(SHOP, 5))
+    yield make_proof_vector("a step above the top, and no line", above, {})
+    yield make_proof_vector("no line", data, {})
+    yield make_proof_vector("a line of another service", data, {"sho": held["shop"], "shopp": held["shop"]})
+    yield make_proof_vector("a line of another step", data, line_at(SHOP, 12))
+    yield make_proof_vector("another authenticator", data, {"shop": Anchor(13, DIGEST)})
+    yield make_proof_vector("the line among others", data, {"a": Anchor(1, DIGEST), **held, "zz-9": Anchor(LAST_STEP, DIGEST)})
+    yield make_proof_vector("another datum in the path", flipped(data, 37), held)
+    yield make_proof_vector("another label in the path", flipped(data, 37 + 64), held)
+    yield make_proof_vector("another event root in the opening", replace(proof, opening=replace(proof.opening, event_root=DIGEST)).to_bytes(), held)
+    yield make_proof_vector("another archive label in the opening", replace(proof, opening=replace(proof.opening, archive_label=DIGEST)).to_bytes(), held)
+    yield make_proof_vector("another count", replace(proof, opening=replace(proof.opening, count=4)).to_bytes(), held)
+    yield make_proof_vector("a time put on", replace(proof, opening=replace(proof.opening, time=0)).to_bytes(), held)
+    yield make_proof_vector("another authenticator before", replace(proof, opening=replace(proof.opening, before=DIGEST)).to_bytes(), held)
+    yield make_proof_vector("another event", replace(proof, event=replace(proof.event, event=b"order 5.2")).to_bytes(), held)
+    yield make_proof_vector("another index", replace(proof, event=replace(proof.event, index=0)).to_bytes(), held)
+    yield make_proof_vector("another label of the event's path", flipped(data, -1), held)
+    yield make_proof_vector("another event, and no line", flipped(data, -1), {})
+    yield make_proof_vector("another event, and another authenticator", flipped(data, -1), {"shop": Anchor(13, DIGEST)})
     timed = existence_proof(TIMED, 3, 0, 5)
-    yield judged("another time", replace(timed, opening=replace(timed.opening, time=6)).to_bytes(), line_at(TIMED, 5))
-    yield judged("a time taken away", replace(timed, opening=replace(timed.opening, time=None)).to_bytes(), line_at(TIMED, 5))
+    yield make_proof_vector("another time", replace(timed, opening=replace(timed.opening, time=6)).to_bytes(), line_at(TIMED, 5))
+    yield make_proof_vector("a time taken away", replace(timed, opening=replace(timed.opening, time=None)).to_bytes(), line_at(TIMED, 5))
 
 
 def no_events() -> Iterator[Vector]:
@@ -114,12 +114,12 @@ def no_events() -> Iterator[Vector]:
         ("step 2, which has a label more", 28, "02"), ("count 2, which has a label more", 104, "02"),
     ]
     for name, place, digits in changes:
-        yield judged(name, over(data, place, bytes.fromhex(digits)), held)
+        yield make_proof_vector(name, over(data, place, bytes.fromhex(digits)), held)
     yield from cuts(data, held, (0, 1, 4, 5, 13, 29, 44, 104, 105, 136, 144))
     timed = event_of(TIMED, 5, 0, 5)
-    yield judged("a time of 2^40", over(timed, 37 + 68 + 2, b"\x01"), line_at(TIMED, 5))
-    yield judged("cut in a time", timed[: 37 + 68 + 7], line_at(TIMED, 5))
-    yield judged("a bad byte is told before a missing line", over(data, 140, b"\x01"), {})
+    yield make_proof_vector("a time of 2^40", over(timed, 37 + 68 + 2, b"\x01"), line_at(TIMED, 5))
+    yield make_proof_vector("cut in a time", timed[: 37 + 68 + 7], line_at(TIMED, 5))
+    yield make_proof_vector("a bad byte is told before a missing line", over(data, 140, b"\x01"), {})
 
 
 def events() -> Iterator[Vector]:
@@ -127,11 +127,11 @@ def events() -> Iterator[Vector]:
     for vectors in (accepted_events, deep_events, rejected_events, no_events):
         yield from vectors()
     data, auth = event_of(LEAST, 1, 0, 1), LEAST.auths[1].hex()
-    yield asked("the line in words", ["verify", "proof", "a", "1", auth], {"proof": data})
-    yield asked("the line in words, in capitals", ["verify", "proof", "a", "1", auth.upper()], {"proof": data})
-    yield asked("another line in words", ["verify", "proof", "a", "2", auth], {"proof": data})
-    yield judged("the strict form", data, line_at(LEAST, 1), "strict")
-    yield judged("the strict form, another event", event_of(Timeline("a", [[b"x"]]), 1, 0, 1), line_at(LEAST, 1), "strict")
+    yield make_vector("the line in words", ["verify", "proof", "a", "1", auth], {"proof": data})
+    yield make_vector("the line in words, in capitals", ["verify", "proof", "a", "1", auth.upper()], {"proof": data})
+    yield make_vector("another line in words", ["verify", "proof", "a", "2", auth], {"proof": data})
+    yield make_proof_vector("the strict form", data, line_at(LEAST, 1), "strict")
+    yield make_proof_vector("the strict form, another event", event_of(Timeline("a", [[b"x"]]), 1, 0, 1), line_at(LEAST, 1), "strict")
 
 
 # ---- kind 2, an event before another
@@ -165,7 +165,7 @@ def accepted_ways() -> Iterator[Vector]:
         own.append(events, time)
     for second, first in (((4, 0, 4), (1, 0)), ((2, 1, 4), (1, 0)), ((3, 0, 4), (2, 1))):
         way = Way({"shop": own}, ("shop", *second), [], first)
-        yield judged(f"steps {first[0]} and {second[0]} of one service", way.proof().to_bytes(), way.anchors())
+        yield make_proof_vector(f"steps {first[0]} and {second[0]} of one service", way.proof().to_bytes(), way.anchors())
     ways = {
         "the least way": least_way(), "one hop, bound": two_histories()[1], "two hops, bound": three_histories(),
         "two hops and times": three_histories((3, 2**31)), "two hops, the first carried": carried(three_histories(), (0,)),
@@ -174,10 +174,10 @@ def accepted_ways() -> Iterator[Vector]:
     }
     for name, way in ways.items():
         for form in ("verify", "strict"):
-            yield judged(f"{name}, {form}", way.proof().to_bytes(), way.anchors(), form)
-    yield judged("64 hops", long_way(64).proof().to_bytes(), {name: anchor for name, anchor in long_way(64).anchors().items()})
+            yield make_proof_vector(f"{name}, {form}", way.proof().to_bytes(), way.anchors(), form)
+    yield make_proof_vector("64 hops", long_way(64).proof().to_bytes(), {name: anchor for name, anchor in long_way(64).anchors().items()})
     anchors = {**three_histories().anchors(), "other": Anchor(1, DIGEST)}
-    yield judged("a line more than is needed", three_histories().proof().to_bytes(), anchors, "strict")
+    yield make_proof_vector("a line more than is needed", three_histories().proof().to_bytes(), anchors, "strict")
 
 
 def with_hop(proof: PrecedenceProof, number: int, hop: Hop) -> PrecedenceProof:
@@ -230,18 +230,18 @@ def rejected_ways() -> Iterator[Vector]:
     way = three_histories()
     proof, held = way.proof(), way.anchors()
     for name, other in (*faulty_heads(proof), *faulty_hops(proof)):
-        yield judged(name, other.to_bytes(), held)
+        yield make_proof_vector(name, other.to_bytes(), held)
     data = proof.to_bytes()
     for service in held:
-        yield judged(f"no line of {service}", data, {name: anchor for name, anchor in held.items() if name != service})
-        yield judged(f"another authenticator of {service}", data, {**held, service: Anchor(held[service].step, DIGEST)})
-    yield judged("no line of two: the first in the file is told", data, {"gamma": held["gamma"]})
-    yield judged("no line at all", data, {})
+        yield make_proof_vector(f"no line of {service}", data, {name: anchor for name, anchor in held.items() if name != service})
+        yield make_proof_vector(f"another authenticator of {service}", data, {**held, service: Anchor(held[service].step, DIGEST)})
+    yield make_proof_vector("no line of two: the first in the file is told", data, {"gamma": held["gamma"]})
+    yield make_proof_vector("no line at all", data, {})
     faulty = replace(proof, event=replace(proof.event, event=b"x"))
-    yield judged("another second event, and no line of beta", faulty.to_bytes(), {"gamma": held["gamma"], "alpha": held["alpha"]})
-    yield judged("both events changed", replace(faulty, first_event=replace(proof.first_event, event=b"x")).to_bytes(), held)
+    yield make_proof_vector("another second event, and no line of beta", faulty.to_bytes(), {"gamma": held["gamma"], "alpha": held["alpha"]})
+    yield make_proof_vector("both events changed", replace(faulty, first_event=replace(proof.first_event, event=b"x")).to_bytes(), held)
     loose = carried(way, (0, 1)).proof()
-    yield judged("carried and changed, strict", replace(loose, event=replace(loose.event, event=b"x")).to_bytes(), held, "strict")
+    yield make_proof_vector("carried and changed, strict", replace(loose, event=replace(loose.event, event=b"x")).to_bytes(), held, "strict")
 
 
 def no_ways() -> Iterator[Vector]:
@@ -256,7 +256,7 @@ def no_ways() -> Iterator[Vector]:
         ("count 0 of the first event's step", 490, "00"), ("index 1 of the first event", 526, "01"),
     ]
     for name, place, digits in changes:
-        yield judged(name, over(data, place, bytes.fromhex(digits)), held)
+        yield make_proof_vector(name, over(data, place, bytes.fromhex(digits)), held)
     yield from cuts(data, held, (5, 6, 29, 245, 341, 343, 408, 422, 530, 532))
 
 
@@ -302,38 +302,38 @@ def thread_of(step: int, top: int, place: int) -> ThreadProof:
 def threads() -> Iterator[Vector]:
     """Kind 3."""
     for step, top, place in ((2, 2, 0), (2, 12, 0), (5, 12, 1), (12, 12, 0), (12, 12, 3), (12, 12, 5), (7, 8, 2)):
-        yield judged(f"entry {place} after step {step}, under {top}", thread_of(step, top, place).to_bytes(), bank_lines(top))
+        yield make_proof_vector(f"entry {place} after step {step}, under {top}", thread_of(step, top, place).to_bytes(), bank_lines(top))
     whole = row(128)
     entry = listed(whole.trees[128])[127]
     longest = thread_proof(whole.line(), whole.trees[128], 128, 128, entry)
-    yield judged("127 nodes above", longest.to_bytes(), line_at(whole.line(), 128))
+    yield make_proof_vector("127 nodes above", longest.to_bytes(), line_at(whole.line(), 128))
     proof, held = thread_of(12, 12, 3), bank_lines()
     own, data = proof.entry, proof.to_bytes()
-    yield judged("a step above the top", thread_of(12, 5, 3).to_bytes(), bank_lines(5))
-    yield judged("archived above the step", replace(proof, entry=own._replace(archived=13)).to_bytes(), held)
-    yield judged("archived above the step, and no line", replace(proof, entry=own._replace(archived=13)).to_bytes(), {})
-    yield judged("no line", data, {})
-    yield judged("another authenticator", data, {"bank": Anchor(12, DIGEST)})
+    yield make_proof_vector("a step above the top", thread_of(12, 5, 3).to_bytes(), bank_lines(5))
+    yield make_proof_vector("archived above the step", replace(proof, entry=own._replace(archived=13)).to_bytes(), held)
+    yield make_proof_vector("archived above the step, and no line", replace(proof, entry=own._replace(archived=13)).to_bytes(), {})
+    yield make_proof_vector("no line", data, {})
+    yield make_proof_vector("another authenticator", data, {"bank": Anchor(12, DIGEST)})
     for name, other in (
         ("of another service", own._replace(service="mil")), ("of another step", own._replace(step=own.step + 1)),
         ("of another authenticator", own._replace(authenticator=DIGEST)),
         ("archived at another step", own._replace(archived=own.archived - 1)),
     ):
-        yield judged(f"an entry {name}", replace(proof, entry=other).to_bytes(), held)
+        yield make_proof_vector(f"an entry {name}", replace(proof, entry=other).to_bytes(), held)
     tree = proof.tree
-    yield judged("another side", replace(proof, tree=replace(tree, sides=(DIGEST, EMPTY_ARCHIVE))).to_bytes(), held)
-    yield judged("another label above", flipped(data, -1), held)
-    yield judged("another entry above", flipped(data, -64), held)
-    yield judged("a node above left out", replace(proof, tree=replace(tree, ancestors=tree.ancestors[:-1])).to_bytes(), held)
-    yield judged("nodes above in another order", replace(proof, tree=replace(tree, ancestors=tree.ancestors[::-1])).to_bytes(), held)
-    yield judged("another archive label", replace(proof, opening=replace(proof.opening, archive_label=DIGEST)).to_bytes(), held)
-    yield judged("another tree, and another authenticator", flipped(data, -1), {"bank": Anchor(12, DIGEST)})
+    yield make_proof_vector("another side", replace(proof, tree=replace(tree, sides=(DIGEST, EMPTY_ARCHIVE))).to_bytes(), held)
+    yield make_proof_vector("another label above", flipped(data, -1), held)
+    yield make_proof_vector("another entry above", flipped(data, -64), held)
+    yield make_proof_vector("a node above left out", replace(proof, tree=replace(tree, ancestors=tree.ancestors[:-1])).to_bytes(), held)
+    yield make_proof_vector("nodes above in another order", replace(proof, tree=replace(tree, ancestors=tree.ancestors[::-1])).to_bytes(), held)
+    yield make_proof_vector("another archive label", replace(proof, opening=replace(proof.opening, archive_label=DIGEST)).to_bytes(), held)
+    yield make_proof_vector("another tree, and another authenticator", flipped(data, -1), {"bank": Anchor(12, DIGEST)})
     small, line = thread_of(2, 2, 0).to_bytes(), bank_lines(2)
     for name, place, digits in (
         ("a bad name of the entry", -129, "41"), ("a thread of step 0", -106, "00"), ("archived at step 0", -66, "00"),
         ("128 nodes above", -65, "80"), ("a node above that isn't there", -65, "01"), ("step 0", 28, "00"), ("count 1025", 103, "0401"),
     ):
-        yield judged(name, over(small, place, bytes.fromhex(digits)), line)
+        yield make_proof_vector(name, over(small, place, bytes.fromhex(digits)), line)
     yield from cuts(small, line, (37, 101, len(small) - 129, len(small) - 65, len(small) - 1))
 
 
@@ -347,28 +347,28 @@ def absences() -> Iterator[Vector]:
     for step, top, service, number in (
         (1, 1, "mill", 1), (1, 12, "mill", 3), (12, 12, "mill", 4), (12, 12, "a", 1), (12, 12, "zz-9", LAST_STEP), (9, 12, "aunt", 2), (8, 9, "mill", 10),
     ):
-        yield judged(f"{service} {number} after step {step}, under {top}", absent_of(step, top, service, number).to_bytes(), bank_lines(top))
+        yield make_proof_vector(f"{service} {number} after step {step}, under {top}", absent_of(step, top, service, number).to_bytes(), bank_lines(top))
     whole = row(128)
     longest = absence_proof(whole.line(), whole.trees[128], 128, 128, ("other", 129))
-    yield judged("128 nodes above", longest.to_bytes(), line_at(whole.line(), 128))
+    yield make_proof_vector("128 nodes above", longest.to_bytes(), line_at(whole.line(), 128))
     proof, held = absent_of(12, 12, "mill", 4), bank_lines()
     data, tree = proof.to_bytes(), proof.tree
-    yield judged("a step above the top", absent_of(12, 5, "mill", 4).to_bytes(), bank_lines(5))
-    yield judged("no line", data, {})
-    yield judged("another authenticator", data, {"bank": Anchor(12, DIGEST)})
-    yield judged("a thread that is there", replace(proof, absent_step=9).to_bytes(), held)
-    yield judged("a thread that is there, and stands above", replace(proof, absent_step=3).to_bytes(), held)
-    yield judged("a thread that another way leads to", replace(proof, absent_step=2).to_bytes(), held)
-    yield judged("another service in the same place", replace(proof, absent_service="milla", absent_step=1).to_bytes(), held)
-    yield judged("a node above left out", replace(proof, tree=replace(tree, ancestors=tree.ancestors[1:])).to_bytes(), held)
-    yield judged("another label above", flipped(data, -1), held)
-    yield judged("another tree, and no line", flipped(data, -1), {})
+    yield make_proof_vector("a step above the top", absent_of(12, 5, "mill", 4).to_bytes(), bank_lines(5))
+    yield make_proof_vector("no line", data, {})
+    yield make_proof_vector("another authenticator", data, {"bank": Anchor(12, DIGEST)})
+    yield make_proof_vector("a thread that is there", replace(proof, absent_step=9).to_bytes(), held)
+    yield make_proof_vector("a thread that is there, and stands above", replace(proof, absent_step=3).to_bytes(), held)
+    yield make_proof_vector("a thread that another way leads to", replace(proof, absent_step=2).to_bytes(), held)
+    yield make_proof_vector("another service in the same place", replace(proof, absent_service="milla", absent_step=1).to_bytes(), held)
+    yield make_proof_vector("a node above left out", replace(proof, tree=replace(tree, ancestors=tree.ancestors[1:])).to_bytes(), held)
+    yield make_proof_vector("another label above", flipped(data, -1), held)
+    yield make_proof_vector("another tree, and no line", flipped(data, -1), {})
     small, line = absent_of(1, 1, "mill", 1).to_bytes(), bank_lines(1)
     for name, place, digits in (
         ("a bad name", -25, "2e"), ("of step 0", -2, "00"), ("of step 2^40", -7, "01"), ("129 nodes above", -1, "81"),
         ("a node above that isn't there", -1, "01"),
     ):
-        yield judged(name, over(small, place, bytes.fromhex(digits)), line)
+        yield make_proof_vector(name, over(small, place, bytes.fromhex(digits)), line)
     yield from cuts(small, line, (len(small) - 25, len(small) - 9, len(small) - 1))
 
 
@@ -383,32 +383,32 @@ def link_of(step: int, top: int) -> LinkProof:
 def links() -> Iterator[Vector]:
     """Kind 5."""
     for step, top in ((0, 1), (0, 13), (1, 1), (5, 13), (8, 13), (12, 13), (13, 13), (0, 8), (7, 8), (4, 12)):
-        yield judged(f"from {top} to {step}", link_of(step, top).to_bytes(), line_at(SHOP, top))
+        yield make_proof_vector(f"from {top} to {step}", link_of(step, top).to_bytes(), line_at(SHOP, top))
     for step, top in ((0, LAST_STEP), (2**39, LAST_STEP), (1, 2**39)):
         deep = Deep(step, top, EMPTY_ARCHIVE, [b"x"])
         proof = LinkProof("deep", step, top, deep.auth, deep.path)
-        yield judged(f"from {top} to {step}", proof.to_bytes(), {"deep": Anchor(top, deep.reached)})
+        yield make_proof_vector(f"from {top} to {step}", proof.to_bytes(), {"deep": Anchor(top, deep.reached)})
     proof, held = link_of(5, 13), line_at(SHOP, 13)
     data = proof.to_bytes()
     above = link_of(13, 5)
-    yield judged("a step above the top", above.to_bytes(), line_at(SHOP, 5))
-    yield judged("a step above the top, and no line", above.to_bytes(), {})
-    yield judged("no line", data, {})
-    yield judged("a line of another service", data, {"shoq": held["shop"]})
-    yield judged("a line of another step", data, line_at(SHOP, 12))
-    yield judged("another authenticator held", data, {"shop": Anchor(13, DIGEST)})
-    yield judged("another authenticator claimed", replace(proof, authenticator=DIGEST).to_bytes(), held)
-    yield judged("another authenticator of step 0", replace(link_of(0, 13), authenticator=DIGEST).to_bytes(), held)
-    yield judged("of a step to itself, another authenticator", replace(link_of(13, 13), authenticator=DIGEST).to_bytes(), held)
+    yield make_proof_vector("a step above the top", above.to_bytes(), line_at(SHOP, 5))
+    yield make_proof_vector("a step above the top, and no line", above.to_bytes(), {})
+    yield make_proof_vector("no line", data, {})
+    yield make_proof_vector("a line of another service", data, {"shoq": held["shop"]})
+    yield make_proof_vector("a line of another step", data, line_at(SHOP, 12))
+    yield make_proof_vector("another authenticator held", data, {"shop": Anchor(13, DIGEST)})
+    yield make_proof_vector("another authenticator claimed", replace(proof, authenticator=DIGEST).to_bytes(), held)
+    yield make_proof_vector("another authenticator of step 0", replace(link_of(0, 13), authenticator=DIGEST).to_bytes(), held)
+    yield make_proof_vector("of a step to itself, another authenticator", replace(link_of(13, 13), authenticator=DIGEST).to_bytes(), held)
     for place in (69, 101, 133, len(data) - 1):
-        yield judged(f"byte {place} changed", flipped(data, place), held)
+        yield make_proof_vector(f"byte {place} changed", flipped(data, place), held)
     first, second, *others = proof.path
-    yield judged("labels in another order", replace(proof, path=(first, replace(second, labels=second.labels[::-1]), *others)).to_bytes(), held)
-    yield judged("the strict form", data, held, "strict")
+    yield make_proof_vector("labels in another order", replace(proof, path=(first, replace(second, labels=second.labels[::-1]), *others)).to_bytes(), held)
+    yield make_proof_vector("the strict form", data, held, "strict")
     for name, place, digits in (
         ("a bad name", 8, "5f"), ("step 2^40", 23, "01"), ("top 0", 36, "00"), ("kind 6", 4, "06"), ("the bytes of another kind", 4, "01"),
     ):
-        yield judged(name, over(link_of(0, 1).to_bytes(), place, bytes.fromhex(digits)), line_at(SHOP, 1))
+        yield make_proof_vector(name, over(link_of(0, 1).to_bytes(), place, bytes.fromhex(digits)), line_at(SHOP, 1))
     yield from cuts(data, held, (37, 68, 69, 100, len(data) - 1))
 
 
@@ -434,6 +434,6 @@ def anchors() -> Iterator[Vector]:
         "a good line, then a bad one": f"{line}b\n", "a zero byte": f"a 1 {auth}\0\n",
     }
     for name, text in texts.items():
-        yield judged(name, proof, text.encode())
-    yield judged("a byte that is no ASCII", proof, b"\xc3\xa4 1 " + auth.encode())
-    yield judged("a bad line is told before a bad proof", b"TWP2", b"a")
+        yield make_proof_vector(name, proof, text.encode())
+    yield make_proof_vector("a byte that is no ASCII", proof, b"\xc3\xa4 1 " + auth.encode())
+    yield make_proof_vector("a bad line is told before a bad proof", b"TWP2", b"a")

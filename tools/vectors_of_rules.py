@@ -7,7 +7,7 @@ from dataclasses import replace
 from typing import Iterator, Tuple, Union
 
 from keepers import Keeper, KeptStep, tree_of
-from vector import Deep, Vector, asked, flipped
+from vector import Deep, Vector, flipped, make_vector
 from vectors_of_contradictions import File, pair
 
 from timeweave_reference.anchors import anchors_to_bytes
@@ -213,7 +213,7 @@ def receiving(name: str, evidence: "Evidence | bytes", *keepers: Keeper, lines: 
     """The vector of evidence, under the lines of the last steps of keepers, and a link or no bytes of one."""
     data = evidence.to_bytes() if isinstance(evidence, Evidence) else evidence
     held = b"".join(anchors_to_bytes(keeper.line(len(keeper.steps))) for keeper in keepers) if lines is None else lines
-    return asked(name, ["receiver", "evidence", "anchors", "link"], {"evidence": data, "anchors": held, "link": link})
+    return make_vector(name, ["receiver", "evidence", "anchors", "link"], {"evidence": data, "anchors": held, "link": link})
 
 
 def evidence_of(one: Keeper, first: Entry, other: Keeper, second: Entry, bottom: bytes = Y) -> Evidence:

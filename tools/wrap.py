@@ -5,9 +5,10 @@
 """
 
 import re
-import sys
 import textwrap
 from pathlib import Path
+
+from command_line import reader_of_words, run_script
 
 WIDTH = 120
 
@@ -56,10 +57,13 @@ def of_manual(lines):
 
 
 def main():
-    for path in map(Path, sys.argv[1:]):
+    """Wraps the files."""
+    words = reader_of_words(__doc__)
+    words.add_argument("files", nargs="+", type=Path, metavar="FILE", help="a document")
+    for path in words.parse_args().files:
         wrap = of_manual if path.suffix == ".1" else of_markdown
         path.write_text("\n".join(wrap(path.read_text().split("\n"))))
 
 
 if __name__ == "__main__":
-    main()
+    run_script(main)

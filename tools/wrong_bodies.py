@@ -16,7 +16,6 @@ import os
 import re
 import shutil
 import subprocess
-import sys
 import tempfile
 from concurrent.futures import ThreadPoolExecutor
 from contextlib import contextmanager
@@ -27,10 +26,10 @@ from typing import Callable, Iterator, Optional
 import body_trials
 from body_batches import Batch, batches, changed, changes_of, halves, refused, texts_of
 from body_trials import TRIED, Trial, git
-from crate_copy import TOP, copy_crates
+from command_line import reader_of_words, run_script
+from crates import TOP, copy_crates, read_crates
 from leave_out import BEGINS, CHANGE, Crate, body_of
 from leave_out import edits as edits_of_gate
-from pictures import crates
 
 EDIT = re.compile(r"^edit: (\w+)\n((?:(?!edit: ).*\n?)*)", re.M)
 REFUSED = re.compile(r"(?:rt: )?must-fail (\w+)/(\w+)\.edit: refused, as it must be")
@@ -223,7 +222,7 @@ def try_all(names: list[str], digests: dict[str, str], jobs: int) -> int:
 
 def read_words() -> argparse.Namespace:
     """The words of the command line."""
-    words = argparse.ArgumentParser(description=__doc__, formatter_class=argparse.RawDescriptionHelpFormatter)
+    words = reader_of_words(__doc__)
     words.add_argument("names", nargs="*", metavar="NAME", help="a crate; those whose line doesn't fit if none is said")
     words.add_argument("--anew", action="store_true", help="all crates")
     words.add_argument("--list", action="store_true", help="tries none: counts them, and tells those that don't fit the sources")
@@ -235,7 +234,7 @@ def read_words() -> argparse.Namespace:
 def main() -> int:
     """Does what the words say; answers the status to end with."""
     words = read_words()
-    names = [name for name in words.names or crates() if all_bodies(name)]
+    names = [name for name in words.names or read_crates() if all_bodies(name)]
     if words.list:
         return listed(names)
     if words.kept:
@@ -251,4 +250,4 @@ def main() -> int:
 
 
 if __name__ == "__main__":
-    sys.exit(main())
+    run_script(main)
