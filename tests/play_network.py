@@ -44,7 +44,7 @@ def read_words() -> argparse.Namespace:
     words.add_argument("--cut", metavar="SHARE", type=float, default=0, help="this share of the ways is cut in a night, by a hostile server with --web; else none")
     words.add_argument("--faulty", metavar="SHARE", type=float, default=FAULTY, help=f"this share of the turns has a fault; else {FAULTY}")
     words.add_argument("--beside", action="store_true", help="with --web: plays the same over folders too, both without faults: the finds have to be the same bytes")
-    words.add_argument("--write", action="store_true", help="writes the figures into bench/RESULTS.md, and the picture bench/NETWORK.svg")
+    words.add_argument("--write", action="store_true", help="writes the figures into bench/results.json, of which `python3 bench/page.py` makes the page")
     given = words.parse_args()
     if given.services < LEAST_SERVICES or given.nights < LEAST_NIGHTS:
         words.error(f"there are {LEAST_SERVICES} services and {LEAST_NIGHTS} nights at least, so that each has its part")
@@ -68,7 +68,7 @@ def play(words: argparse.Namespace, executor: Executor, place: Path, ways: Ways,
 
 def main() -> int:
     """Plays the network of the command line."""
-    words, began = read_words(), time.monotonic()
+    words, began, before = read_words(), time.monotonic(), os.getloadavg()[0]
     faulty = 0 if words.beside else words.faulty
     with contextlib.ExitStack() as stack:
         folder: Optional[str] = words.folder or stack.enter_context(tempfile.TemporaryDirectory(prefix="network-"))
@@ -85,7 +85,7 @@ def main() -> int:
     print(json.dumps({**figures.as_json(), "seconds": round(time.monotonic() - began, 1)}))
     print("\n".join(wrong) or "all as it has to be")
     if words.write and not wrong:
-        told.write(figures, words.beside)
+        told.write_part(figures, sys.argv[2:], tempfile.gettempdir(), before)
     return 1 if wrong else 0
 
 

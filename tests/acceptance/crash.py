@@ -6,17 +6,20 @@
 
 import os
 import random
-import sys
 from concurrent.futures import ThreadPoolExecutor
 
 from harness.places import TOP
 from harness.power import SIZES, name_of, recorded, tried
 from harness.rooms import Skipped
 
+from command_line import reader_of_words, run_script
+
 
 def main():
     """Tries all images, and tells how many there are of each run."""
-    program = os.path.abspath(sys.argv[1] if len(sys.argv) > 1 else TOP / "bin/timeweave")
+    words = reader_of_words(__doc__)
+    words.add_argument("program", nargs="?", default=TOP / "bin/timeweave", metavar="PROGRAM", help="the built program")
+    program = os.path.abspath(words.parse_args().program)
     failed, workers = 0, os.cpu_count()
     for size in (None, *SIZES):
         try:
@@ -34,4 +37,4 @@ def main():
 
 
 if __name__ == "__main__":
-    sys.exit(main())
+    run_script(main)

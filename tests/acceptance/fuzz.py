@@ -10,7 +10,6 @@ still differ, and written into cases/found/, where the acceptance run runs it fr
 commands that were run are told, each with how often and with which statuses.
 """
 
-import argparse
 import hashlib
 import json
 import os
@@ -25,7 +24,9 @@ from harness import kept
 from harness.drawn import drawn
 from harness.places import FOUND
 from harness.shrinking import shrunk
-from harness.trials import Difference, difference, ran, told, wanted
+from harness.trials import Difference, describe_trial, difference, ran, wanted
+
+from command_line import reader_of_words, run_script
 from timeweave_reference.words import kinds_of, kinds_of_forms
 
 # How many trials are drawn before the time is looked at, and the seconds that shrinking takes at most.
@@ -57,7 +58,7 @@ class Coverage:
     def add(self, met):
         self.runs.update(met)
 
-    def told(self):
+    def describe_runs(self):
         forms = {}
         for (form, status), number in self.runs.items():
             first = (form or "(no form)").split()
@@ -78,7 +79,7 @@ def keep(program, trial, seed, number):
     path = FOUND / f"{trial.commands[-1].words[0] if trial.commands[-1].words else 'words'}-{name}.json"
     FOUND.mkdir(exist_ok=True)
     kept.write(path, trial, differs, seed=seed, number=number)
-    print(f"{told(trial, differs)}\n  of {len(trial.commands)} commands and {sum(map(len, trial.files.values()))} bytes of files, in {os.path.relpath(path)}")
+    print(f"{describe_trial(trial, differs)}\n  of {len(trial.commands)} commands and {sum(map(len, trial.files.values()))} bytes of files, in {os.path.relpath(path)}")
     print(f"  again: python3 {os.path.relpath(__file__)} {program} --again {os.path.relpath(path)}")
 
 
@@ -98,7 +99,7 @@ def fuzz(program, seconds, seed):
                 print(f"\r{runs} trials", end="", file=sys.stderr, flush=True)
     if found is not None:
         keep(program, drawn(seed, found), seed, found)
-    print("\n".join(coverage.told()))
+    print("\n".join(coverage.describe_runs()))
     print(f"seed {seed}: {runs} trials in {time.monotonic() - begun:.0f} seconds, {'one of which differs' if found is not None else 'each as the reference says'}")
     return 1 if found is not None else 0
 
@@ -107,12 +108,12 @@ def again(program, path):
     """Runs the trial of a file once more, and tells where it differs."""
     trial = kept.read(Path(path))
     differs = difference(program, trial)
-    print(told(trial, differs) if differs else "each command answers as the reference says")
+    print(describe_trial(trial, differs) if differs else "each command answers as the reference says")
     return 1 if differs else 0
 
 
 def main():
-    words = argparse.ArgumentParser(description=__doc__, formatter_class=argparse.RawDescriptionHelpFormatter)
+    words = reader_of_words(__doc__)
     words.add_argument("program", metavar="PROGRAM")
     words.add_argument("seconds", metavar="SECONDS", type=float, nargs="?", default=60)
     words.add_argument("seed", metavar="SEED", nargs="?", default="1")
@@ -126,4 +127,4 @@ def main():
 
 
 if __name__ == "__main__":
-    sys.exit(main())
+    run_script(main)

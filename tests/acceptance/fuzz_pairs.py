@@ -11,11 +11,9 @@ and changes that still differ, and written into cases/found_pairs/, where the ac
 and the seed.
 """
 
-import argparse
 import hashlib
 import json
 import os
-import sys
 import time
 from collections import Counter
 from concurrent.futures import ProcessPoolExecutor
@@ -23,6 +21,8 @@ from functools import partial
 
 from harness.asked_pairs import FOUND_PAIRS, can_ask, difference, head, names_innocent, read_pair, wanted
 from harness.drawn_pairs import OF_ONE, drawn_recipe, pair_of, recipe_to_json, shrunk
+
+from command_line import reader_of_words, run_script
 
 # How many pairs a process asks for at once; it is of whole histories.
 AT_ONCE = 10 * OF_ONE
@@ -79,7 +79,7 @@ def again(path):
 
 
 def main():
-    words = argparse.ArgumentParser(description=__doc__, formatter_class=argparse.RawDescriptionHelpFormatter)
+    words = reader_of_words(__doc__)
     words.add_argument("count", metavar="COUNT", type=int, nargs="?", default=100_000)
     words.add_argument("seed", metavar="SEED", nargs="?", default="1")
     words.add_argument("--again", metavar="FILE")
@@ -92,4 +92,4 @@ def main():
 
 
 if __name__ == "__main__":
-    sys.exit(main())
+    run_script(main)

@@ -7,12 +7,11 @@
         --list          tells the names, and runs nothing
         --texts         documents and sources alone, but for the tutorial; it needs no built program
 
-The cases stand in cases/, one module a subject, each of which says what its cases are of; cases/found/ has those that the fuzzer found. They run
-as they are made. A case that fails is told with the command that runs it again. The last line is `N passed, N failed`; before it each case that
+The cases stand in cases/, one module a subject, each of which says what its cases are of; cases/found/ has those that the fuzzer found. What checks
+documents and sources stands in tests/texts/cases. They run as they are made. A case that fails is told with the command that runs it again. The last line is `N passed, N failed`; before it each case that
 was skipped, since what it needs isn't there, is told with what that is.
 """
 
-import argparse
 import os
 import shlex
 import sys
@@ -25,13 +24,19 @@ from harness.making import LEAST
 from harness.places import TOP
 from harness.running import difference
 
+from command_line import reader_of_words, run_script
+
 # The modules of cases/, in the order in which they run; and those whose cases come once all others have run.
 MODULES = (
     "data", "generated", "archives", "precedence", "forks", "atlases", "audits", "adoptions", "maps", "reaching", "steps", "worked", "pages", "failing", "messages",
     "exported", "mapped", "played", "stacks", "followers", "damaged", "receiving", "tree_runs", "edges", "beside", "guarded", "power", "faults", "fuzz", "found", "tables", "refused",
-    "documents", "prose", "cited", "promised", "reference", "small_worlds", "vectors", "installed", "released", "shown", "unproved", "entries", "operated", "weft", "said", "progress", "sources",
+    "documents", "prose", "cited", "promised", "reference", "small_worlds", "vectors", "installed", "released", "shown", "unproved", "entries", "operated", "weft", "said", "progress", "sources", "scripts",
 )
 LATER = ("contradictions", "library", "web", "bindings")
+
+# Those of them that stand in tests/texts; and all that `--texts` runs, of which some try the reference.
+OF_TEXTS = ("documents", "prose", "cited", "promised", "said", "progress", "sources", "scripts")
+WITHOUT_PROGRAM = ("documents", "vectors", "prose", "cited", "promised", "reference", "small_worlds", "said", "progress", "sources", "scripts")
 
 # How many cases wait for one that runs.
 AHEAD = 4
@@ -57,12 +62,17 @@ class Wanted:
         return name == self.text if self.is_whole else self.text in name
 
 
+def load(module):
+    """A module of cases."""
+    return import_module(f"{'texts.' * (module in OF_TEXTS)}cases.{module}")
+
+
 def cases_of(modules, wanted, begin=lambda module: None):
     """The cases of modules, each with its whole name, as they are made; before the first one of a module that begins."""
     for module in modules:
         if wanted.has_module(module):
             has_begun = False
-            for case in import_module(f"cases.{module}").cases():
+            for case in load(module).cases():
                 if wanted.has(f"{module}/{case['name']}"):
                     if not has_begun:
                         begin(module)
@@ -72,10 +82,9 @@ def cases_of(modules, wanted, begin=lambda module: None):
 
 def texts():
     """The cases of documents and sources that need no program."""
-    for module in ("documents", "vectors"):
-        yield from ((f"{module}/{case['name']}", case) for case in import_module(f"cases.{module}").without_program())
-    for module in ("prose", "cited", "promised", "reference", "small_worlds", "said", "progress", "sources"):
-        yield from ((f"{module}/{case['name']}", case) for case in import_module(f"cases.{module}").cases())
+    for module in WITHOUT_PROGRAM:
+        it = load(module)
+        yield from ((f"{module}/{case['name']}", case) for case in getattr(it, "without_program", it.cases)())
 
 
 class Tally:
@@ -111,7 +120,7 @@ class Tally:
         elif self.count % 50 == 0 and sys.stderr.isatty():
             self.show()
 
-    def told(self):
+    def print_summary(self):
         """Tells what was skipped, and how many passed; answers the status."""
         self.clear()
         for name in sorted(rooms.SKIPPED):
@@ -149,7 +158,7 @@ def collect(running, tally):
 
 
 def read_words():
-    words = argparse.ArgumentParser(description=__doc__, formatter_class=argparse.RawDescriptionHelpFormatter)
+    words = reader_of_words(__doc__)
     words.add_argument("program", nargs="?", default=TOP / "bin/timeweave", metavar="PROGRAM", help="the built program")
     words.add_argument("-k", dest="pattern", metavar="PATTERN", help="these cases alone")
     words.add_argument("-j", dest="workers", type=int, default=os.cpu_count(), metavar="N", help="so many at a time")
@@ -163,8 +172,9 @@ def main():
     if words.texts:
         tally = Tally(None)
         run(None, texts(), tally, 1)
-        return tally.told()
-    wanted = Wanted(words.pattern)
+        return tally.print_summary()
+    # (what is among all answers is seen of all cases)
+    wanted = Wanted(None if words.pattern in (SEEN, f"={SEEN}") else words.pattern)
     if words.list:
         for name, _ in cases_of(MODULES + LATER, wanted):
             print(name)
@@ -173,16 +183,16 @@ def main():
     tally = Tally(program)
     if not os.access(program, os.X_OK):
         tally.add("program", f"  {program} isn't there: `make build` builds it")
-        return tally.told()
+        return tally.print_summary()
     if (TOP / "crates/timeweave/data/p").read_bytes() != LEAST:
         tally.add("least proof", "  crates/timeweave/data/p isn't the least proof of the reference")
-        return tally.told()
+        return tally.print_summary()
     run(program, cases_of(MODULES, wanted, tally.begin), tally, words.workers)
     run(program, cases_of(LATER, wanted, tally.begin), tally, 1)
-    if words.pattern is None:
+    if wanted.text == "":
         tally.add(SEEN, "\n".join(seen.missing()) or None)
-    return tally.told()
+    return tally.print_summary()
 
 
 if __name__ == "__main__":
-    sys.exit(main())
+    run_script(main)

@@ -11,7 +11,6 @@ script ends with quiet nights. weft runs in this process, over the second implem
 script that breaks a rule is shrunk and written into cases/found_search/, where the acceptance run plays it from then on.
 """
 
-import argparse
 import hashlib
 import json
 import os
@@ -38,6 +37,8 @@ from harness.weft_inside import Inside  # noqa: E402
 from harness.weft_machine import Machine  # noqa: E402
 from harness.weft_model import Broken  # noqa: E402
 from harness.weft_room import reseal  # noqa: E402
+
+from command_line import reader_of_words, run_script  # noqa: E402
 
 FOUND_SEARCH = CASES / "found_search"
 
@@ -199,7 +200,7 @@ def again(path):
 def main():
     if sys.argv[1:2] == [PLANT]:
         return find_planted(sys.argv[3])
-    words = argparse.ArgumentParser(description=__doc__, formatter_class=argparse.RawDescriptionHelpFormatter)
+    words = reader_of_words(__doc__)
     words.add_argument("turns", metavar="TURNS", type=int, nargs="?", default=20_000)
     words.add_argument("seed", metavar="SEED", nargs="?", default="1")
     words.add_argument("--planted", metavar="SEED", nargs="?", const="1")
@@ -213,4 +214,4 @@ def main():
 
 
 if __name__ == "__main__":
-    sys.exit(main())
+    run_script(main)

@@ -4,16 +4,21 @@
     python3 tests/acceptance/weft_cases.py PROGRAM [PATTERN]    runs those whose name has the pattern; with = before it, the one of that whole name
 """
 
-import sys
 import time
 
 from cases.weft import own_cases
 from harness.rooms import SKIPPED
 
+from command_line import reader_of_words, run_script
 
-def run(program, pattern=""):
+
+def main():
     """Runs the cases; answers the status: 1 where one failed, or none has the pattern."""
-    failed, found = 0, 0
+    words = reader_of_words(__doc__)
+    words.add_argument("program", metavar="PROGRAM", help="the built program")
+    words.add_argument("pattern", nargs="?", default="", metavar="PATTERN", help="what stands in the name of a case")
+    told = words.parse_args()
+    program, pattern, failed, found = told.program, told.pattern, 0, 0
     for it in own_cases():
         if it["name"] != pattern.removeprefix("=") if pattern.startswith("=") else pattern not in it["name"]:
             continue
@@ -28,4 +33,4 @@ def run(program, pattern=""):
 
 
 if __name__ == "__main__":
-    sys.exit(run(*sys.argv[1:3]))
+    run_script(main)

@@ -9,17 +9,16 @@ other pair. What else a history can break is named in harness/elsewhere.py. It t
 the first pairs that are told wrongly. Five steps are a million histories, and take some minutes.
 """
 
-import argparse
-import sys
-
 from harness.small_worlds import SERVICES, Files, Worlds, tallied, told_of_two
+
+from command_line import reader_of_words, run_script
 from timeweave_reference.broken_rules import RULES
 
 # How many pairs that are told wrongly are shown.
 SHOWN = 3
 
 
-def told(service, worlds, tally):
+def describe_tally(service, worlds, tally):
     """What is told of the pairs of one service."""
     yield f"{service}: {worlds.number} sound histories of up to {worlds.most} steps; {tally.pairs} pairs of files, of which no sound history has {tally.unsound}"
     yield from (f"  {tally.alone[number]:>7} by rule {number} {rule.word} alone" for number, rule in enumerate(RULES, 1))
@@ -28,7 +27,7 @@ def told(service, worlds, tally):
 
 
 def main():
-    words = argparse.ArgumentParser(description=__doc__, formatter_class=argparse.RawDescriptionHelpFormatter)
+    words = reader_of_words(__doc__)
     words.add_argument("steps", metavar="STEPS", type=int, nargs="?", default=4)
     asked = words.parse_args()
     kinds, wrong = [], 0
@@ -36,7 +35,7 @@ def main():
         worlds = Worlds(service, asked.steps)
         kinds.append(Files(worlds))
         tally = tallied(kinds[-1])
-        print("\n".join(told(service, worlds, tally)), flush=True)
+        print("\n".join(describe_tally(service, worlds, tally)), flush=True)
         wrong += len(tally.wrong)
     mixed = told_of_two(*kinds)
     print(f"of files of two services {mixed} pairs are told as broken rules")
@@ -44,4 +43,4 @@ def main():
 
 
 if __name__ == "__main__":
-    sys.exit(main())
+    run_script(main)

@@ -19,11 +19,16 @@ from weft.deciding.backups import (
     is_key_file,
     is_of_service,
     list_lost,
+    list_lost_own,
+    list_narrowed,
     list_to_ask,
+    list_written,
     may_be_named,
+    mode_put_back,
     read_item,
     read_manifest,
     read_noted,
+    read_stamp_name,
     weigh_present,
     weigh_target,
 )
@@ -157,6 +162,24 @@ class Targets(unittest.TestCase):
             self.assertFalse(is_key_file(data, True), data)
 
 
+class PutBack(unittest.TestCase):
+    """What comes back of a backup, whoever made it."""
+
+    def test_others_may_what_a_carrier_needs_and_no_more(self) -> None:
+        for item, mode in (
+            (Item("service", 0o777), 0o700), (Item("service/timeline.tw", 0o666, 1, "a"), 0o600), (Item("service.lines", 0o644, 1, "a"), 0o600), (Item("service.anchor", 0o666, 1, "a"), 0o644),
+            (Item("box", 0o777), 0o755), (Item("box/box.conf", 0o666, 1, "a"), 0o600), (Item("box/bank", 0o775), 0o755), (Item("box/bank/in", 0o777), 0o777),
+            (Item("box/bank/out", 0o777), 0o755), (Item("box/bank/out/line", 0o666, 1, "a"), 0o644), (Item("box/bank/kept", 0o755), 0o700), (Item("box/bank/kept/in", 0o777), 0o700),
+            (Item("box/bank/events", 0o644, 1, "a"), 0o600), (Item("service/box/in", 0o777), 0o700), (Item("own/kept", 0o644, 1, "a"), 0o600),
+        ):  # fmt: skip
+            self.assertEqual(mode_put_back(item), mode, item)
+        self.assertEqual(list_narrowed([FOLDER, FILE, OTHER]), ["own/kept"])
+
+    def test_what_a_turn_would_write_elsewhere(self) -> None:
+        named = [("publish", "/srv/box/www"), ("backup", "/home/a/.ssh/authorized_keys"), ("publish", "/srv/box"), ("backup", "/srv/box-2")]
+        self.assertEqual(list_written(named, "/srv/box"), ["backup", "backup"])
+
+
 class Others(unittest.TestCase):
     """Whose a backup is, and whom to ask."""
 
@@ -174,6 +197,24 @@ class Others(unittest.TestCase):
         self.assertEqual(read_noted(noted.text), noted)
         for text in ("", noted.text.removesuffix(" /back up/log\n"), noted.text.replace("Z", ""), noted.text.replace("f" * 64, "f" * 63), noted.text.replace("data 31", "data x"), LINE.text):
             self.assertIsNone(read_noted(text), text)
+
+
+class Own(unittest.TestCase):
+    """The user's own files beside his kept lines."""
+
+    def test_a_stamp_tells_its_line_by_its_name(self) -> None:
+        name = f"31-{'a' * 64}-{'b' * 32}.stamp"
+        self.assertEqual(read_stamp_name(f"own/kept.stamps/data/{name}"), LINE)
+        self.assertEqual(read_stamp_name(f"own/kept.stamps/data/31-{'a' * 64}-{'b' * 32}-31-{'a' * 64}-{'c' * 32}.stamp"), LINE)
+        for other in (f"own/kept.stamps/{name}", f"own/kept.stamps/data/x{name}", f"own/kept.stamps/data/{name}.new", f"own/kept/data/{name}", f"own/kept.stamps/DATA/{name}"):
+            self.assertIsNone(read_stamp_name(other), other)
+
+    def test_what_the_backup_before_had_of_the_own_files_and_this_one_lacks_is_listed(self) -> None:
+        stamp, lines = Item("own/kept.stamps/data/x", 0o600, 1, "c" * 64), Item("own/kept", 0o600, 2, "e" * 64)
+        before = [Item("own/kept.stamps", 0o700), stamp, OTHER, FILE]
+        self.assertEqual(list_lost_own(before, [lines]), [stamp.name])
+        self.assertEqual(list_lost_own(before, [stamp, lines]), [])
+        self.assertEqual(list_lost_own([], [stamp]), [])
 
 
 if __name__ == "__main__":

@@ -59,6 +59,48 @@ class HandedOver(unittest.TestCase):
             self.assertEqual(batching.handed_before(it.event), it)
 
 
+class Framed(unittest.TestCase):
+    """Events as they are handed over, each behind its length."""
+
+    EVENTS: tuple[list[bytes], ...] = ([], [b""], [b"", b""], [b"a"], [b"ab", b"cd", b"ef"], [b"a", b"", b"abc"], [b"x" * 1024], [b"x" * 1024, b"y"], [b"\0\0\0\1"] * 3, [b"\0\0\0\1", b"\0"])
+
+    def test_what_is_framed_is_split(self) -> None:
+        for events in self.EVENTS:
+            body = batching.frame(events)
+            self.assertTrue(batching.is_framed(len(events), body), events)
+            self.assertEqual(batching.split_framed(body), events)
+
+    def test_nothing_else_is_framed(self) -> None:
+        for events in self.EVENTS:
+            body = batching.frame(events)
+            for count in {0, 1, abs(len(events) - 1), len(events) + 1, 5} - {len(events)}:
+                self.assertFalse(batching.is_framed(count, body), (count, events))
+            for wrong in (body + b"\0", body + b"x" * 4, body[:-1]):
+                self.assertEqual(batching.is_framed(len(events), wrong), wrong == body, (wrong, events))
+        for sizes in ((1025,), (1025, 1025), (1, 1025), (1025, 1)):
+            self.assertFalse(batching.is_framed(len(sizes), batching.frame([b"x" * size for size in sizes])), sizes)
+        self.assertFalse(batching.is_framed(2, b"\0\0\0\1a\0\0\0\2b"))
+        self.assertFalse(batching.is_framed(2, b"\0\0\0\1a\0\0\1\1b"))
+
+    def test_the_width_is_that_of_all(self) -> None:
+        for events, width in (([b"a"], 5), ([b"ab", b"cd"], 6), ([b"a", b"bc"], None), ([b"ab", b"c", b"def"], None), ([b"", b""], 4)):
+            self.assertEqual(batching.width_of(batching.frame(events)), width)
+
+    def test_words_of_a_service_go_by_themselves(self) -> None:
+        for words in (b"goes on as x", b"new key x  "):
+            beginnings: tuple[list[bytes], ...] = ([words], [b"a", words], [words, b"abcd"], [b"n" * len(words), words], [b"x" * len(words), words])
+            for events in beginnings:
+                self.assertFalse(batching.may_go_as_framed(batching.frame(events)), events)
+        others: tuple[list[bytes], ...] = ([b"goes on", b"another"], [b"n", b"g"], [b"a new key ", b"it goes on as x"], [b"new kay x", b"a new key"], [b"new kay x", b"a new key "], [])
+        for events in others:
+            self.assertTrue(batching.may_go_as_framed(batching.frame(events)), events)
+
+    def test_plain_events_have_the_lines_of_others(self) -> None:
+        for count in (0, 1, 3, 1024):
+            events = [b"%d" % number for number in range(count)]
+            self.assertEqual(batching.write_plain_records(1234, events), batching.write_records(1234, [batching.handed_over(event) for event in events]))
+
+
 class Keys(unittest.TestCase):
     def test_a_key_is_a_word_of_the_file(self) -> None:
         for key in (b"a", b"!" * 64, b"deed-4711~"):
@@ -83,10 +125,10 @@ class Steps(unittest.TestCase):
     def test_one_always_goes(self) -> None:
         self.assertEqual(batching.count_of_step([11, 1], 3, 10), 1)
 
-    def test_others_are_waited_for_a_tenth_of_the_time(self) -> None:
+    def test_others_are_waited_for_up_to_half_a_step(self) -> None:
         self.assertEqual(batching.patience_for(8, 7, 2.0), 2.0)
         self.assertEqual(batching.patience_for(8, 8, 2.0), 0.0)
-        self.assertEqual(batching.patience_for(2000, 1024, 2.0), 0.0)
+        self.assertEqual([batching.patience_for(2000, waiting, 2.0) for waiting in (511, 512, 1024)], [2.0, 0.0, 0.0])
         self.assertEqual([batching.patience_for(8, 7, 2.0, vain) for vain in range(9)], [2.0, *[0.0] * 7, 2.0])
 
 

@@ -1,31 +1,22 @@
 """Tests of bundles: which bytes are one, and which of its lines count."""
 
+import base64
 import io
 import itertools
+import json
 import unittest
 import zipfile
 
+import bundle_vectors
+from bundle_vectors import RECORD_NAMES, apply_changes, zipped
 from weft.deciding.bundles import (
-    END, MOST_BYTES, NEEDED, Met, Unfit, is_on_a_word, may_judge_under, meet_line, numbered, read_bundle, record_name, write_bundle,
+    END, MOST_BYTES, NEEDED, Met, Unfit, are_judged_together, is_on_a_word, list_records, may_judge_under, meet_line, numbered, read_bundle, write_bundle,
 )
 from weft.deciding.lines import Line
 
 FILES = {"README.txt": b"read", "proof": b"TWP1", "lines": b"shop 2 ..\n", "record": b"bread", "signed-1": b"a", "signed-1.sig": b"b", "stamp-64": b""}
 DATA = write_bundle(FILES)
 LINE, OTHER = Line("shop", 2, "ab" * 32), Line("shop", 2, "cd" * 32)
-
-
-def zipped(files: "list[tuple[str, bytes]]", method: int = zipfile.ZIP_STORED, comment: bytes = b"", note: bytes = b"", mode: int = 0o100644) -> bytes:
-    """A zip file as another program writes it; but for what is said otherwise, as a bundle is."""
-    whole = io.BytesIO()
-    with zipfile.ZipFile(whole, "w") as out:
-        out.comment = comment
-        for name, data in files:
-            info = zipfile.ZipInfo(name)
-            info.compress_type, info.create_system, info.create_version, info.extract_version = method, 3, 10, 10
-            info.external_attr, info.comment = mode << 16, note
-            out.writestr(info, data)
-    return whole.getvalue()
 
 
 class Spelling(unittest.TestCase):
@@ -43,9 +34,9 @@ class Spelling(unittest.TestCase):
         self.assertEqual(len(dict(read_bundle(write_bundle({name: b"" for name in NEEDED})))), 3)  # type: ignore[arg-type]
 
     def test_no_other_name_is_in_one(self) -> None:
-        for name in ("../up", "/root", "a", "proof/", "signed-0", "signed-65", "signed-1.asc", "stamp-1.sig", "README", "PROOF", "signed-01", "record.names", ""):
+        for name in ("../up", "/root", "a", "proof/", "signed-0", "signed-65", "signed-1.asc", "stamp-1.sig", "README", "PROOF", "signed-01", "record.names", "proof-1", "proof-3", "record-1", "record-3", "lines-2", ""):
             self.assertIs(read_bundle(write_bundle({**FILES, name: b"x"})), Unfit.NAME, name)
-        for name in ("signed-64", "stamped-9", "stamp-60", "signed-59.sig", "keys", "record.name"):
+        for name in ("signed-64", "stamped-9", "stamp-60", "signed-59.sig", "keys", "record.name", "held", "proof-2", "record-2", "record-2.name"):
             self.assertIn(name, read_bundle(write_bundle({**FILES, name: b"x"})))  # type: ignore[arg-type]
 
     def test_what_another_program_spells_otherwise_is_refused(self) -> None:
@@ -67,6 +58,14 @@ class Spelling(unittest.TestCase):
             self.assertIsInstance(read_bundle(bytes(changed)), Unfit, (place, bit))
         for size in range(len(DATA)):
             self.assertIsInstance(read_bundle(DATA[:size]), Unfit, size)
+
+    def test_each_vector_has_its_answer(self) -> None:
+        self.assertEqual(bundle_vectors.PATH.read_text(encoding="utf-8"), bundle_vectors.text(), "python3 tests/deciding/bundle_vectors.py writes it anew")
+        told = json.loads(bundle_vectors.PATH.read_text(encoding="utf-8"))
+        for it in told["vectors"]:
+            found = read_bundle(apply_changes(base64.b64decode(told["bases"][it["base"]]), it["changes"]))
+            self.assertEqual(found.name if isinstance(found, Unfit) else sorted(found), it["answer"], it["name"])
+        self.assertEqual({it["answer"] for it in told["vectors"] if isinstance(it["answer"], str)}, {why.name for why in Unfit})
 
     def test_one_has_a_limit(self) -> None:
         self.assertIs(read_bundle(bytes(MOST_BYTES)), Unfit.END)
@@ -105,13 +104,19 @@ class Parts(unittest.TestCase):
         self.assertEqual(numbered(found, "stamped"), [(3, b"f", b"g")])
 
     def test_a_record_has_a_name_that_is_no_path(self) -> None:
-        self.assertIsNone(record_name({"record.name": b"x"}))
-        for name, told in (
-            (b"paid.csv\n", "paid.csv"), (b"a b", "a b"), (b"", "record"), (b"../up", "record"), (b"/x", "record"), (b"..", "record"), (b".", "record"), (b"a\0b", "record"),
-            (b"x" * 255, "x" * 255), (b"x" * 256, "record"), (b"\n", "record"),
+        self.assertEqual(list_records({"record.name": b"x", "record-2.name": b"y"}), [])
+        for given, told in RECORD_NAMES:
+            self.assertEqual(list_records({"record": b"a", "record.name": given}), [(told, b"a")])
+        self.assertEqual(list_records({"record": b"a", "record-2": b"b", "record-2.name": b"later\n"}), [("record", b"a"), ("later", b"b")])
+        self.assertEqual(list_records({"record-2": b"b", "record.name": b"other"}), [("record-2", b"b")])
+
+    def test_two_files_are_judged_together_where_they_are_a_low_map_and_a_high_one(self) -> None:
+        for told, are in (
+            ("event", True), ("low map", True), ("low map, high map", True), ("high map, low map", False), ("event, event", False), ("low map, low map", False),
+            ("low map, high map, high map", False),
         ):  # fmt: skip
-            self.assertEqual(record_name({"record": b"", "record.name": name}), told)
-        self.assertEqual(record_name({"record": b""}), "record")
+            self.assertIs(are_judged_together(told.split(", ")), are, told)
+        self.assertFalse(are_judged_together([]))
 
 
 if __name__ == "__main__":

@@ -5,7 +5,7 @@ import unittest
 from typing import Optional
 
 from weft import packages
-from weft.deciding.contradicting import Differing, Doubted, Hop, Lacked, Pair, Received, Told, find_denied, find_doubted, find_histories_apart, find_pairs, find_two_lines, list_entries, may_count, read_told
+from weft.deciding.contradicting import Differing, Doubted, Hop, Lacked, Pair, Received, Told, find_denied, find_doubted, find_histories_apart, find_pairs, find_two_lines, list_entries, may_count, read_by, read_told, write_by
 from weft.deciding.contradicting import Whole as Recorded
 from weft.deciding.lines import LAST_STEP, Line
 
@@ -220,6 +220,20 @@ def facts_of(told: Told):  # type: ignore[no-untyped-def]
     lack = None if told.lacked is None else Lack(*told.lacked)
     line, shown = (Anchor(step, bytes.fromhex(auth)) for step, auth in (told.under[1:], (told.step, told.authenticator)))
     return Facts(told.service, line, shown, opening, entry, lack)
+
+
+class Tellers(unittest.TestCase):
+    """By whose word a file tells what others recorded, as a row has it."""
+
+    def test_they_are_read_as_written_and_are_no_archive(self) -> None:
+        many = [f"s-{number}" for number in range(20)]
+        for services in (["bank"], ["port", "bank", "bank"], many):
+            self.assertEqual(read_by(write_by(services)), {*services})
+            self.assertIsNone(read_told(write_by(services)))
+        self.assertEqual(write_by(["port", "bank"]), "by bank,port")
+        self.assertEqual(write_by([]), "")
+        self.assertEqual(read_by(""), set())
+        self.assertEqual(read_by(entry(3, 4).text), set())
 
 
 if __name__ == "__main__":

@@ -57,37 +57,37 @@ class Later(unittest.TestCase):
     """Which kept line tells of a part behind those that are there."""
 
     @staticmethod
-    def found(names: list[str], kept: str, others: str = "", step: int = 3) -> str:
+    def find_next(names: list[str], kept: str, others: str = "", step: int = 3) -> str:
         """The name of the service whose line tells of one, - for none."""
         line = find_later_part(names, [Line(name, step, "a" * 64) for name in kept.split()], others.split())
         return line.service if line else "-"
 
     def test_it_has_the_name_of_a_later_part(self) -> None:
-        self.assertEqual(self.found(["shop"], "bank shop shop-2"), "shop-2")
-        self.assertEqual(self.found(["shop", "shop-3"], "shop-2 shop shop-3 shop-10 shop-4"), "shop-10")
+        self.assertEqual(self.find_next(["shop"], "bank shop shop-2"), "shop-2")
+        self.assertEqual(self.find_next(["shop", "shop-3"], "shop-2 shop shop-3 shop-10 shop-4"), "shop-10")
         for kept in ("bank", "shop", "shop-1", "shop-02", "shop-a", "ashop-2", "bank-2", "shops-2", "-2", ""):
-            self.assertEqual(self.found(["shop"], kept), "-", kept)
+            self.assertEqual(self.find_next(["shop"], kept), "-", kept)
 
     def test_of_an_earlier_number_it_tells_nothing(self) -> None:
         for kept in ("shop-2", "shop-3", "shop"):
-            self.assertEqual(self.found(["shop", "shop-3"], kept), "-", kept)
+            self.assertEqual(self.find_next(["shop", "shop-3"], kept), "-", kept)
 
     def test_a_number_far_ahead_is_none(self) -> None:
-        self.assertEqual(self.found(["shop"], "shop-2026 shop-101"), "-")
-        self.assertEqual(self.found(["shop"], "shop-2026 shop-100"), "shop-100")
-        self.assertEqual(self.found(["shop", "shop-3"], "shop-103"), "-")
-        self.assertEqual(self.found(["shop", "shop-3"], "shop-102"), "shop-102")
-        self.assertEqual(self.found(["shop"], "shop-101 shop-102", "shop-2"), "shop-101")
-        self.assertEqual(self.found(["shop"], "shop-102", "shop-2"), "-")
-        self.assertEqual(self.found(["finance-log-2025"], "finance-log-2026"), "-")
+        self.assertEqual(self.find_next(["shop"], "shop-2026 shop-101"), "-")
+        self.assertEqual(self.find_next(["shop"], "shop-2026 shop-100"), "shop-100")
+        self.assertEqual(self.find_next(["shop", "shop-3"], "shop-103"), "-")
+        self.assertEqual(self.find_next(["shop", "shop-3"], "shop-102"), "shop-102")
+        self.assertEqual(self.find_next(["shop"], "shop-101 shop-102", "shop-2"), "shop-101")
+        self.assertEqual(self.find_next(["shop"], "shop-102", "shop-2"), "-")
+        self.assertEqual(self.find_next(["finance-log-2025"], "finance-log-2026"), "-")
 
     def test_another_service_is_none(self) -> None:
-        self.assertEqual(self.found(["shop"], "shop-2", "shop-2"), "-")
-        self.assertEqual(self.found(["shop"], "shop-2 shop-3", "shop-2"), "shop-3")
+        self.assertEqual(self.find_next(["shop"], "shop-2", "shop-2"), "-")
+        self.assertEqual(self.find_next(["shop"], "shop-2 shop-3", "shop-2"), "shop-3")
 
     def test_the_line_of_step_0_says_nothing(self) -> None:
-        self.assertEqual(self.found(["shop"], "shop-2", step=0), "-")
-        self.assertEqual(self.found(["shop"], "shop-2", step=1), "shop-2")
+        self.assertEqual(self.find_next(["shop"], "shop-2", step=0), "-")
+        self.assertEqual(self.find_next(["shop"], "shop-2", step=1), "shop-2")
 
     def test_numbers_of_parts(self) -> None:
         for name, number in (("shop", 1), ("shop-2", 2), ("shop-31", 31), ("shop-1", 0), ("bank", 0), ("bank-2", 0)):

@@ -16,6 +16,7 @@ from weft.deciding.gone import (
     may_log,
     was_still,
 )
+from weft.deciding.gone import is_hollow, least_content, may_be_hollow
 
 ROOT = Kind.FOLDER
 
@@ -170,6 +171,17 @@ class Still(unittest.TestCase):
         self.assertFalse(was_still(None, self.STATE, 900 * TICK))
         self.assertFalse(was_still(None, None, 900 * TICK))
         self.assertFalse(was_still(self.STATE, None, 900 * TICK))
+
+
+class Hollow(unittest.TestCase):
+    """Files of which next to nothing is on the disk."""
+
+    def test_a_large_one_with_less_than_a_thousandth(self) -> None:
+        for size, content in ((1 << 40, 0), (1 << 40, (1 << 40) // 1_000 - 1), ((1 << 30) + 1, 0)):
+            self.assertTrue(is_hollow(size, content))
+        for size, content in ((1 << 30, 0), (1 << 40, (1 << 40) // 1_000), (1 << 40, 1 << 40), (0, 0)):
+            self.assertFalse(is_hollow(size, content))
+        self.assertEqual([may_be_hollow(1 << 30), may_be_hollow((1 << 30) + 1), least_content(1 << 40)], [False, True, (1 << 40) // 1_000])
 
 
 if __name__ == "__main__":

@@ -3,8 +3,8 @@
 import unittest
 
 from weft.deciding.keeping import (
-    Counting, Mark, Outcome, Placement, Standing, choose_line, find_standing_choice, list_counting, may_be_mistyped, may_be_sent, place_line, read_mark, standing_of,
-    was_passed_over,
+    Counting, Mark, Outcome, Placement, Standing, choose_line, find_standing_choice, is_anothers, is_of_system, list_counting, may_be_mistyped, may_be_sent, may_come_beside, place_line, read_mark,
+    standing_of, was_passed_over,
 )  # fmt: skip
 from weft.deciding.lines import LAST_STEP, Kept, Line
 
@@ -64,6 +64,25 @@ class Files(unittest.TestCase):
 
     def test_one_that_is_named_from_the_current_folder_on_may_have_been_sent(self) -> None:
         self.assertEqual([may_be_sent(named) for named in ("signers", "./signers", "~/signers", "/home/a/signers", "")], [True, True, True, False, False])
+
+    def test_what_comes_beside_a_line_may_take_the_place_of_what_came_beside_one(self) -> None:
+        for named in (f"shop 2 {A}\n".encode(), f"shop 2 {A}".encode(), b"# The line of step 2 of shop. Behind"):
+            self.assertTrue(may_come_beside(named))
+        for other in (None, b"", b"thesis", f"shop 2 {A}\n\n".encode(), f"x\nshop 2 {A}\n".encode(), f"shop 2 {A}\nx".encode(), b"The line of step 2", b"\xff"):
+            self.assertFalse(may_come_beside(other))
+
+    def test_which_links_are_the_systems(self) -> None:
+        for folder in ("/dev", "/dev/fd", "/proc/self/fd", "/sys"):
+            self.assertTrue(is_of_system(folder))
+        for folder in ("/", "/srv", "/devices", "/dev/shm", "/dev/shm/a", "/srv/dev"):
+            self.assertFalse(is_of_system(folder))
+
+
+class Owners(unittest.TestCase):
+    """Whose a file is that somebody may have made before."""
+
+    def test_neither_this_users_nor_the_systems(self) -> None:
+        self.assertEqual([is_anothers(owner, own) for owner, own in ((1000, (1001,)), (1000, (1000,)), (0, (1000,)), (1000, (0, 1000)), (1, ()))], [True, False, False, False, True])
 
 
 class CountingLines(unittest.TestCase):

@@ -3,7 +3,7 @@
 import unittest
 
 from weft.deciding.lines import LAST_STEP
-from weft.deciding.listing import Range, find_empty, is_listed, read_range
+from weft.deciding.listing import Range, find_empty, is_listed, join_names, read_range
 
 
 class Read(unittest.TestCase):
@@ -34,6 +34,18 @@ class Listed(unittest.TestCase):
     def test_a_range_behind_the_last_step_is_found(self) -> None:
         self.assertIsNone(find_empty([Range(1, 3), Range(5, 9)], 5))
         self.assertEqual(find_empty([Range(1, 3), Range(6, 9), Range(8, 8)], 5), Range(6, 9))
+
+
+class Names(unittest.TestCase):
+    """The names of one content."""
+
+    def test_each_name_is_told_once_and_of_many_how_many_more(self) -> None:
+        self.assertEqual(join_names(["deed"]), "deed")
+        self.assertEqual(join_names(["deed", "deed"]), "deed")
+        self.assertEqual(join_names(["deed", "copy", "deed", "third"]), "deed (the same content: copy, third)")
+        names = [f"n{number}" for number in range(10)]
+        self.assertEqual(join_names(names[:9]), "n0 (the same content: n1, n2, n3, n4, n5, n6, n7, n8)")
+        self.assertEqual(join_names(names), "n0 (the same content: n1, n2, n3, n4, n5, n6, n7, n8, 1 more)")
 
 
 if __name__ == "__main__":

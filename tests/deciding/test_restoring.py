@@ -50,7 +50,7 @@ def line(step: int, letter: str = "a", service: str = "shop") -> Line:
     return Line(service, step, letter * 64)
 
 
-def told(*lines: Line) -> list[Told]:
+def make_told(*lines: Line) -> list[Told]:
     """The lines, each handed back by bank."""
     return [Told(it, "handed back by bank") for it in lines]
 
@@ -60,35 +60,35 @@ class Lines(unittest.TestCase):
 
     def test_the_last_line_and_proved_ones_are_of_the_store(self) -> None:
         proved = {2: line(2), 7: line(7)}
-        self.assertIsNone(find_lacking(line(9), proved, told(line(2), line(7), line(9), line(0, "f"))))
+        self.assertIsNone(find_lacking(line(9), proved, make_told(line(2), line(7), line(9), line(0, "f"))))
         self.assertIsNone(find_lacking(line(9), {}, []))
 
     def test_a_later_line_shows_an_old_store(self) -> None:
-        later = told(line(10))
+        later = make_told(line(10))
         self.assertEqual(find_lacking(line(9), {}, later), later[0])
 
     def test_another_line_of_a_step_shows_another_history(self) -> None:
         for step in (2, 9):
-            other = told(line(2), line(step, "b"))
+            other = make_told(line(2), line(step, "b"))
             self.assertEqual(find_lacking(line(9), {2: line(2)}, other), other[1])
 
     def test_a_step_that_the_store_does_not_prove_is_lacking(self) -> None:
-        self.assertEqual(find_lacking(line(9), {}, told(line(4))), told(line(4))[0])
+        self.assertEqual(find_lacking(line(9), {}, make_told(line(4))), make_told(line(4))[0])
 
     def test_the_first_lacking_line_is_told(self) -> None:
-        both = told(line(11), line(10))
+        both = make_told(line(11), line(10))
         self.assertEqual(find_lacking(line(9), {}, both), both[0])
 
     def test_lines_of_others_say_nothing(self) -> None:
-        self.assertIsNone(find_lacking(line(9), {}, told(line(12, service="bank"))))
+        self.assertIsNone(find_lacking(line(9), {}, make_told(line(12, service="bank"))))
 
     def test_a_store_without_steps_lacks_each_line_of_one(self) -> None:
-        self.assertEqual(find_lacking(line(0), {}, told(line(1))), told(line(1))[0])
+        self.assertEqual(find_lacking(line(0), {}, make_told(line(1))), make_told(line(1))[0])
 
     def test_the_steps_between_have_to_be_proved(self) -> None:
         lines = [line(7), line(2), line(7, "b"), line(0), line(9), line(12), line(3, service="bank")]
-        self.assertEqual(list_steps_to_prove(line(9), told(*lines)), [2, 7])
-        self.assertEqual(list_steps_to_prove(line(9), told(line(1), line(8))), [1, 8])
+        self.assertEqual(list_steps_to_prove(line(9), make_told(*lines)), [2, 7])
+        self.assertEqual(list_steps_to_prove(line(9), make_told(line(1), line(8))), [1, 8])
 
 
 class Waiting(unittest.TestCase):
@@ -188,35 +188,35 @@ class Turn(unittest.TestCase):
     """What a turn does."""
 
     def test_a_turn_without_a_look_goes_on(self) -> None:
-        self.assertEqual(judge_turn(line(9), {}, told(line(9)), [Word("bank", None)], None), Answer(Go.ON))
+        self.assertEqual(judge_turn(line(9), {}, make_told(line(9)), [Word("bank", None)], None), Answer(Go.ON))
 
     def test_a_restored_store_waits_for_each_peer(self) -> None:
         words = [Word("bank", BEGAN + DAY), Word("port", BEGAN - 7), Word("mint", None)]
-        self.assertEqual(judge_turn(line(9), {}, told(line(9)), words, LOOK), Answer(Go.WAIT, None, ("port", "mint")))
+        self.assertEqual(judge_turn(line(9), {}, make_told(line(9)), words, LOOK), Answer(Go.WAIT, None, ("port", "mint")))
 
     def test_the_stale_word_in_a_restored_box_counts_for_nothing(self) -> None:
         words = [Word("bank", BEGAN - 60)]
-        self.assertEqual(judge_turn(line(26), {25: line(25)}, told(line(25)), words, LOOK).go, Go.WAIT)
+        self.assertEqual(judge_turn(line(26), {25: line(25)}, make_told(line(25)), words, LOOK).go, Go.WAIT)
 
     def test_a_word_fetched_at_once_may_have_been_said_before(self) -> None:
-        self.assertEqual(judge_turn(line(26), {}, told(line(26)), [Word("bank", BEGAN + 600)], LOOK).go, Go.WAIT)
+        self.assertEqual(judge_turn(line(26), {}, make_told(line(26)), [Word("bank", BEGAN + 600)], LOOK).go, Go.WAIT)
 
     def test_once_all_words_have_come_it_goes_on(self) -> None:
         words = [Word("bank", BEGAN + DAY), Word("port", BEGAN + 2 * DAY)]
-        self.assertEqual(judge_turn(line(9), {}, told(line(9)), words, LOOK), Answer(Go.ON))
+        self.assertEqual(judge_turn(line(9), {}, make_told(line(9)), words, LOOK), Answer(Go.ON))
         self.assertEqual(judge_turn(line(9), {}, [], [Word("bank", BEGAN + 3)], Look(BEGAN, BEGAN + 3, 3)), Answer(Go.ON))
 
     def test_a_box_without_peers_has_nobody_to_wait_for(self) -> None:
         self.assertEqual(judge_turn(line(9), {}, [], [], LOOK), Answer(Go.ON))
 
     def test_a_lacking_line_counts_at_once_and_before_all_waiting(self) -> None:
-        later = told(line(27))
+        later = make_told(line(27))
         for look in (None, LOOK):
             self.assertEqual(judge_turn(line(26), {}, later, [Word("bank", None)], look), Answer(Go.OLD, later[0]))
 
     def test_a_claim_that_nobody_signed_stops_nothing(self) -> None:
         for claims in ((line(27),), (line(26, "b"), line(99))):
-            self.assertEqual(judge_turn(line(26), {}, told(line(26)), [Word("bank", BEGAN, claims)], None), Answer(Go.ON))
+            self.assertEqual(judge_turn(line(26), {}, make_told(line(26)), [Word("bank", BEGAN, claims)], None), Answer(Go.ON))
 
     def test_it_keeps_a_look_open(self) -> None:
         come = BEGAN + DAY
@@ -229,11 +229,11 @@ class Turn(unittest.TestCase):
         self.assertIsNone(find_claim(line(26), {}, Word("bank", 0)))
 
     def test_a_line_of_a_part_that_is_not_there_shows_an_old_store(self) -> None:
-        both = told(line(3), line(2, service="shop-2"))
+        both = make_told(line(3), line(2, service="shop-2"))
         self.assertEqual(find_of_other_part(line(3), both), both[1])
         self.assertIsNone(find_of_other_part(line(3), both[:1]))
         self.assertEqual(judge_turn(line(3), {}, both, [], None), Answer(Go.OLD, both[1]))
-        self.assertEqual(judge_turn(line(3), {}, told(line(2, service="shop-2"), line(9)), [], None).lacking, told(line(9))[0])
+        self.assertEqual(judge_turn(line(3), {}, make_told(line(2, service="shop-2"), line(9)), [], None).lacking, make_told(line(9))[0])
 
     def test_a_claim_of_one_keeps_a_look_open(self) -> None:
         word = Word("bank", BEGAN + DAY, (line(2, service="shop-2"),))
@@ -241,7 +241,7 @@ class Turn(unittest.TestCase):
         self.assertEqual(judge_turn(line(26), {}, [], [word], None), Answer(Go.ON))
 
     def test_a_step_made_anew_in_a_restored_store_is_another_history(self) -> None:
-        other = told(line(27, "b"))
+        other = make_told(line(27, "b"))
         self.assertEqual(judge_turn(line(27), {}, other, [], None), Answer(Go.OLD, other[0]))
 
 
@@ -263,6 +263,11 @@ class Neighbours(unittest.TestCase):
     def test_a_whole_one_and_one_that_never_logged_go_on(self) -> None:
         self.assertEqual(find_missing(line(9), Beside(True, True, True)), Missing.NOTHING)
         self.assertEqual(find_missing(line(9), Beside(True, False, False)), Missing.NOTHING)
+
+    def test_a_store_of_recorded_events_is_no_log(self) -> None:
+        self.assertEqual(find_missing(line(9), Beside(True, False, True, True)), Missing.LOG)
+        self.assertEqual(find_missing(line(9), Beside(True, True, True, True)), Missing.NOTHING)
+        self.assertEqual(find_missing(line(9), Beside(False, False, True, True)), Missing.LINES)
 
     def test_a_person_names_the_last_line(self) -> None:
         self.assertEqual(compare_named(line(9), None, line(9)), Named.LAST)

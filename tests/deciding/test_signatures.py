@@ -7,7 +7,7 @@ import unittest
 
 from weft.deciding.lines import Line
 from weft.deciding.signatures import (
-    BEGIN, END, MOST_BYTES, Addition, Check, KeyFault, Moment, PublicKey, Signed, counts_at, cut_torn, decode_base64, find_signing_key, key_of_signature, has_days, is_principal, is_private_key, may_count_for_part, may_rest_on, may_sign_lines,
+    BEGIN, END, MOST_BYTES, Addition, Check, KeyFault, Moment, PublicKey, Signed, counts_at, cut_torn, decode_base64, find_signing_key, key_of_signature, has_days, is_principal, is_private_key, is_public_key, may_count_for_part, may_rest_on, may_sign_lines,
     may_sign_some, place_key, read_armour,
     read_check, read_noted_key, read_public_key, read_signed_line, read_signed_lines,
 )  # fmt: skip
@@ -339,6 +339,13 @@ class PrivateKeys(unittest.TestCase):
             self.assertTrue(is_private_key(head))
         for head in (BEGIN, b"ssh-ed25519 AAAA", b"", b"a PRIVATE KEY-----"):
             self.assertFalse(is_private_key(head))
+
+    def test_a_public_key_is_known_by_its_type_and_first_digits(self) -> None:
+        """A type that isn't known, another text behind it, or a type amid isn't one."""
+        for head in (b"ssh-ed25519 AAAAC3NzaC1lZDI1NTE5AAAA", b"ssh-rsa AAAAB3NzaC1yc2EAAAA me", b"sk-ssh-ed25519@openssh.com AAAAGnNr"):
+            self.assertTrue(is_public_key(head))
+        for head in (b"", b"ssh-ed25519", b"ssh-ed25519 key", b"ssh-none AAAA", b"x ssh-ed25519 AAAA", b"shop 3 AAAA"):
+            self.assertFalse(is_public_key(head))
 
 
 class Principals(unittest.TestCase):

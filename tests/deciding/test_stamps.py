@@ -69,7 +69,7 @@ class Pieces(unittest.TestCase):
         self.assertIs(place_stamp(b"ab", b"ac"), Placing.OTHER)
 
 
-def told(moment: str = "Dec  1 13:24:30 2026 GMT", digest: str = "sha512", accuracy: str = "unspecified", front: str = "Version: 1\n") -> bytes:
+def write_reply(moment: str = "Dec  1 13:24:30 2026 GMT", digest: str = "sha512", accuracy: str = "unspecified", front: str = "Version: 1\n") -> bytes:
     """What openssl prints of an answer."""
     return (
         f"{front}Policy OID: 1.2.3\nHash Algorithm: {digest}\nMessage data:\n    0000 - cf de\n    0010 - 10 21\nSerial number: 0x02\nTime stamp: {moment}\n"
@@ -90,17 +90,17 @@ class Told(unittest.TestCase):
             ("Dec  1 13:24:30 2026 GMT", (2026, 12, 1, 13, 24, 30)), ("Feb 29 00:00:00 2028 GMT", (2028, 2, 29)), ("Mar  1 00:00:00 2027 GMT", (2027, 3, 1)),
             ("Jan 31 23:59:59 2100 GMT", (2100, 1, 31, 23, 59, 59)), ("Mar  1 00:00:00 2100 GMT", (2100, 3, 1)), ("Feb 28 01:02:03 2000 GMT", (2000, 2, 28, 1, 2, 3)),
         ):  # fmt: skip
-            self.assertEqual(read_stamp(told(text)), Stamp(second_of(*moment), "sha512"))
+            self.assertEqual(read_stamp(write_reply(text)), Stamp(second_of(*moment), "sha512"))
 
     def test_every_month_is_read(self) -> None:
         for number, name in enumerate("Jan Feb Mar Apr May Jun Jul Aug Sep Oct Nov Dec".split(), 1):
-            self.assertEqual(read_stamp(told(f"{name} 15 00:00:00 2026 GMT")), Stamp(second_of(2026, number, 15), "sha512"))
+            self.assertEqual(read_stamp(write_reply(f"{name} 15 00:00:00 2026 GMT")), Stamp(second_of(2026, number, 15), "sha512"))
 
     def test_it_is_taken_to_the_end_of_its_second_and_accuracy(self) -> None:
         whole = second_of(2026, 12, 1, 13, 24, 30)
         for text, over in (("Dec  1 13:24:30.25 2026 GMT", 1), ("Dec  1 13:24:30 2026 GMT", 0)):
-            self.assertEqual(read_stamp(told(text)), Stamp(whole + over, "sha512"))
-        self.assertEqual(read_stamp(told(accuracy="0x0A seconds, unspecified millis, unspecified micros")), Stamp(whole + 10, "sha512"))
+            self.assertEqual(read_stamp(write_reply(text)), Stamp(whole + over, "sha512"))
+        self.assertEqual(read_stamp(write_reply(accuracy="0x0A seconds, unspecified millis, unspecified micros")), Stamp(whole + 10, "sha512"))
 
     def test_accuracy_is_taken_in_whole_seconds(self) -> None:
         for text, over in (
@@ -114,8 +114,8 @@ class Told(unittest.TestCase):
 
     def test_another_text_tells_nothing(self) -> None:
         for data in (
-            b"", told(front=""), told(front="x\nVersion: 1\n"), told(front="Version: 2\n"), told("Foo  1 13:24:30 2026 GMT"), told("Dec  1 13:24:30 2026"), told("Bad time value"),
-            told(accuracy=""), told(accuracy="0x1 s"), told().replace(b"    0000 - cf de\n    0010 - 10 21\n", b""), told().replace(b"Serial", b"Time stamp: x\nSerial"),
+            b"", write_reply(front=""), write_reply(front="x\nVersion: 1\n"), write_reply(front="Version: 2\n"), write_reply("Foo  1 13:24:30 2026 GMT"), write_reply("Dec  1 13:24:30 2026"), write_reply("Bad time value"),
+            write_reply(accuracy=""), write_reply(accuracy="0x1 s"), write_reply().replace(b"    0000 - cf de\n    0010 - 10 21\n", b""), write_reply().replace(b"Serial", b"Time stamp: x\nSerial"),
         ):  # fmt: skip
             self.assertIsNone(read_stamp(data), data)
 

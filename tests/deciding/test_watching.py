@@ -39,6 +39,16 @@ class Watching(unittest.TestCase):
         ):
             self.assertEqual(list_concerns(STATE._replace(peers=(GOOD, peer)), NOW, 2), [Asking(concern, "bank")])
 
+    def test_stamps(self) -> None:
+        good = STATE._replace(stamped=NOW - DAY, due=NOW + 900 * DAY)
+        self.assertEqual(concerns(good), [])
+        self.assertEqual(concerns(good._replace(stamped=NOW - 2 * DAY - 1)), [Concern.NO_STAMP])
+        self.assertEqual(concerns(good._replace(stamped=0), 0), [])
+        self.assertEqual(concerns(good._replace(due=NOW - 2 * DAY)), [])
+        self.assertEqual(concerns(good._replace(due=NOW - 2 * DAY - 1)), [Concern.STAMP_DUE])
+        self.assertEqual(concerns(good._replace(due=NOW - DAY - 1), 1), [Concern.STAMP_DUE])
+        self.assertEqual(concerns(good._replace(due=0), 0), [])
+
     def test_statuses(self) -> None:
         self.assertEqual(status_of([Asking(Concern.SILENT, "bank")]), Status.LOOK)
         self.assertEqual(status_of([Asking(Concern.SILENT, "bank"), Asking(Concern.FORK, "bank")]), Status.CONTRADICTION)

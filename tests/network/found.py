@@ -119,23 +119,23 @@ class Found:
         for name, dropped in self.dropped.items():
             if dropped is None:
                 continue
-            message = formats.read_message(asked(folder, program, "thread", name, "0"))
+            message = formats.read_message(ask_program(folder, program, "thread", name, "0"))
             assert message is not None, f"{name} has steps"
             held, thread = anchors([formats.line_of(message)]), (dropped.peer, str(dropped.step), str(message.step))
-            first = asked(folder, program, "prove", name, "thread", str(dropped.received), *thread)
-            second = asked(folder, program, "prove", name, "absent", str(dropped.gone), *thread)
+            first = ask_program(folder, program, "prove", name, "thread", str(dropped.received), *thread)
+            second = ask_program(folder, program, "prove", name, "absent", str(dropped.gone), *thread)
             bench = judges.bench()
             bench = bench if bench.has("contradict") else judges.bench(is_by_reference=True)
             if bench.judge("contradict", first, held, second, held, b"").is_accepted:
                 by_proofs.append(name)
-            (folder / "tmp/kept.history").write_bytes(asked(folder, program, "export", name))
+            (folder / "tmp/kept.history").write_bytes(ask_program(folder, program, "export", name))
             status, text = turns.run_program(str(folder), program, "show", "tmp/kept.history", "1", "0")
             if status == judges.UNREADABLE and text.startswith(b"unsound"):
                 by_audit.append(name)
         return by_proofs, by_audit
 
 
-def asked(folder: Path, program: str, *words: str) -> bytes:
+def ask_program(folder: Path, program: str, *words: str) -> bytes:
     """What the program answers of a store."""
     return turns.run_program(str(folder), program, *words)[1]
 

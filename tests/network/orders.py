@@ -73,7 +73,7 @@ def shown_orders(work: Pairs) -> list[Order]:
         bench = judges.bench()
         stack.enter_context(bench.working())
         sources = sources_of(work.folder, tuple(work.names))
-        return [shown(sources, bench, chains.Event(one.name, one.step, 0), chains.Event(other.name, other.step, 0)) for one, other in work.pairs]
+        return [prove_order(sources, bench, chains.Event(one.name, one.step, 0), chains.Event(other.name, other.step, 0)) for one, other in work.pairs]
 
 
 @functools.lru_cache(maxsize=1)
@@ -83,12 +83,12 @@ def sources_of(folder: str, names: tuple[str, ...]) -> chains.Sources:
     return chains.Sources([Store(place / name) for name in names], [place / f"box-{name}" for name in names], [], KeptLines(), judges.bench())
 
 
-def shown(sources: chains.Sources, bench: judges.Bench, first: chains.Event, second: chains.Event) -> Order:
+def prove_order(sources: chains.Sources, bench: judges.Bench, first: chains.Event, second: chains.Event) -> Order:
     """The proof of a pair, judged strictly."""
     try:
         proof = chains.gathered(sources, first, second).proof
     except Trouble as trouble:
-        return Order(0, 0, trouble.told())
+        return Order(0, 0, trouble.describe())
     if proof is None:
         return Order(0, 0, "a part isn't at hand")
     judgement = choosing.judge_proof(bench, proof, sources.kept, allow_carried=False)

@@ -164,7 +164,7 @@ class Network:
         links = [self.link(night, name, peer) for name in self.plan.names if self.plan.is_at_work(night, name) for peer in self.plan.peers[name]]
         cut = {} if is_calm else {link: way for link in links if (way := self.cut(night, link)) is not None}
         if self.ways.web is not None:
-            self.asked = max(self.asked, *Counter(os.path.dirname(it) for it in self.ways.web.asked()).values(), 0)
+            self.asked = max(self.asked, *Counter(os.path.dirname(it) for it in self.ways.web.take_asked()).values(), 0)
             self.ways.web.be_hostile({os.path.relpath(link.web, self.ways.web.root): way for link, way in cut.items()})
         links = [link for link in links if link not in cut]
         size = len(links) // PIECES + 1

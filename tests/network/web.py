@@ -60,11 +60,11 @@ class Handler(BaseHTTPRequestHandler):
         way = next((it for front, it in ways.items() if self.path.startswith(front)), "")
         self.close_connection = bool(way)
         try:
-            getattr(self, way.replace(" ", "_"))(self.found()) if way else self.tell(self.found())
+            getattr(self, way.replace(" ", "_"))(self.read_asked()) if way else self.tell(self.read_asked())
         except (OSError, ValueError):
             self.close_connection = True
 
-    def found(self) -> "bytes | None":
+    def read_asked(self) -> "bytes | None":
         """The bytes of the file that is asked for."""
         path = self.root / self.path.lstrip("/")
         if path.is_file():
@@ -182,7 +182,7 @@ class Web:
         (self.root / ".new").write_text(json.dumps({f"/{front}": way for front, way in ways.items()}))
         os.replace(self.root / ".new", self.root / ".hostile")
 
-    def asked(self) -> "list[str]":
+    def take_asked(self) -> "list[str]":
         """What was asked so far, and is forgotten then."""
         path = self.root / ".asked"
         found = path.read_text().splitlines() if path.exists() else []

@@ -11,6 +11,10 @@
 #
 # It tells how many seconds each part took. The last line is `passed`.
 set -euo pipefail
+if [[ ${1:-} == --help ]]; then
+    sed -n '2,/^set/s/^# \{0,1\}//p' "$0"
+    exit
+fi
 top=$(cd "$(dirname "$0")/../.." && pwd)
 own_suite=$(. /etc/os-release && echo "$VERSION_CODENAME")
 room=$(mktemp -d)
@@ -111,7 +115,8 @@ packages() {
 
     cp "$dist"/*.deb "$root/root/"
     inside sh -c 'apt-get -qq update && apt-get -qq install --no-install-recommends /root/timeweave_*.deb /root/python3-*.deb /root/libtimeweave1_*.deb' > "$room/log" 2>&1 || { tail "$room/log"; exit 1; }
-    told "apt install: timeweave, python3-timeweave, libtimeweave1"
+    inside test -e /usr/share/timeweave/weft/__pycache__ -a -e /usr/lib/python3/dist-packages/timeweave_reference/__pycache__
+    told "apt install: timeweave, python3-timeweave, libtimeweave1; what is of Python is compiled"
 
     local line='a 1 9f9cc8f6baef592ed6bf90b106ebe7b882f59a1cc9803a6d1eef6974da5f87ed'
     cp "$top/crates/timeweave/data/p" "$root/root/p"
@@ -137,9 +142,8 @@ packages() {
         told "the acceptance run"
     fi
     inside apt-get -qq purge timeweave python3-timeweave libtimeweave1 libtimeweave-dev > "$room/log" 2>&1
-    # (what Python compiled isn't the packages' own)
     local left
-    left=$(inside find /usr /etc /var -xdev -type f -path '*timeweave*' -not -name '*.pyc' -not -path '/var/cache/*')
+    left=$(inside find /usr /etc /var -xdev -path '*timeweave*' -not -path '/var/cache/*')
     [ -z "$left" ] || { echo "left behind: $left"; exit 1; }
     told "taken away again"
 }

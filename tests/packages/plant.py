@@ -14,6 +14,7 @@ sys.path.insert(0, str(Path(__file__).resolve().parent.parent / "acceptance"))
 
 import harness.places  # noqa: E402, F401
 from cases import released  # noqa: E402
+from command_line import reader_of_words, run_script  # noqa: E402
 
 
 def plant(dist, into):
@@ -39,13 +40,13 @@ def tell(dist, into):
 
 def main():
     """Plants or tells; the status to end with."""
-    words = sys.argv[1:]
-    if len(words) == 3 and words[1] == "--found":
-        return tell(Path(words[0]), Path(words[2]))
-    if len(words) != 2:
-        sys.exit(__doc__)
-    return plant(*map(Path, words)) or 0
+    words = reader_of_words(__doc__)
+    words.add_argument("dist", type=Path, metavar="DIST", help="the release")
+    words.add_argument("into", type=Path, metavar="INTO", help="the folder of the copies")
+    words.add_argument("--found", action="store_true", help="tell which faults were found")
+    told = words.parse_args()
+    return (tell if told.found else plant)(told.dist, told.into) or 0
 
 
 if __name__ == "__main__":
-    sys.exit(main())
+    run_script(main)

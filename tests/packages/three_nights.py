@@ -4,8 +4,8 @@ other is kept by hand; three nights, a new key, a disk that is lost, and the pac
 
     python3 tests/packages/three_nights.py [--dist DIST | --program PROGRAM] [--debian FOLDER] [--mirror URL]
 
-The packages are those of DIST, of dist where nothing is said. With --program they are made here of the tree and of this built program: without the library, and without
-the page where that isn't built. --debian names an empty Debian that was made before, as by `debootstrap --variant=minbase --include=systemd,acl`; a copy of it is used.
+The packages are those of DIST, of dist where nothing is said. With --program they are made here of the tree, of this built program, and of the library and the page
+that are built here. --debian names an empty Debian that was made before, as by `debootstrap --variant=minbase --include=systemd,acl`; a copy of it is used.
 
 Each command of the main path is typed as it is written there, with names of this place for some of its words. What doesn't run without systemd is skipped by name,
 and what the timer's service would start is typed as its unit has it. It ends with 0 where all is as the document says, and where it can't be tried here: then it
@@ -135,24 +135,15 @@ def empty(place: Path, ready: Optional[Path], mirror: str) -> Iterator[Debian]:
         subprocess.run(["umount", "-q", root / "proc"], check=False)
 
 
-def made_packages(into: Path, program: Path) -> str:
-    """Makes the two packages of the tree and of a program, without the library; answers what they lack."""
+def make_packages(into: Path, program: Path) -> None:
+    """Makes the packages of the tree, of this program, and of the library and the page that are built here."""
     sys.path[:0] = [str(TOP / "tools")]
-    import package
-    import placed
+    import release
 
-    files, lacking = {"bin/timeweave": program}, ["the library"]
-    with tempfile.TemporaryDirectory() as folder:
-        making = package.Making(into, placed.epoch(), files | package.write_tables(folder), f"{placed.VERSION}~trial")
-        for fields in package.stanzas():
-            if fields["Package"] not in ("timeweave", "python3-timeweave"):
-                continue
-            fields["Depends"] = fields["Depends"].replace(", libtimeweave1 (>= VERSION)", "")
-            if "page" in fields["Parts"].split() and placed.missing("page"):
-                fields["Parts"] = fields["Parts"].replace(" page", "")
-                lacking.append("the page")
-            package.package(fields, making)
-    return " and ".join(lacking)
+    missing = [part for part in release.PARTS if part != "bin/timeweave" and not (TOP / part).exists()]
+    if missing:
+        raise Wrong(f"{missing[0]} isn't built")
+    release.pack(into, {"bin/timeweave": program}, f"{release.VERSION}~trial")
 
 
 def install(debian: Debian, dist: Path) -> None:
@@ -313,11 +304,11 @@ def purged(debian: Debian) -> None:
     data = [path for front in ("var/lib/timeweave", "backup", "srv") for path in sorted((debian.root / front).rglob("*")) if path.is_file()]
     before = {path: path.read_bytes() for path in data}
     debian.do("cd /root/dist && apt-get -qq install --reinstall ./timeweave_*.deb")
-    debian.do("apt-get -qq purge timeweave python3-timeweave")
+    debian.do("apt-get -qq purge timeweave python3-timeweave libtimeweave1")
     changed = [str(path) for path in data if not path.exists() or path.read_bytes() != before[path]]
     if changed:
         raise Wrong(f"the purge touched data: {changed[:5]}")
-    left = debian.do("find /usr /etc -xdev -path '*timeweave*' -type f -not -name '*.pyc'").split()
+    left = debian.do("find /usr /etc -xdev -path '*timeweave*' -not -path '/usr/local/*'").split()
     if left:
         raise Wrong(f"left behind: {left}")
     print(f"purged: {len(before)} files of data are as before, and none of the packages is left", flush=True)
@@ -356,7 +347,7 @@ def main() -> int:
         if given.program is not None:
             dist = Path(folder) / "dist"
             dist.mkdir()
-            print(f"packages are made here, without {made_packages(dist, given.program.absolute())}", flush=True)
+            make_packages(dist, given.program.absolute())
         try:
             debian = stack.enter_context(empty(Path(folder), given.debian, given.mirror))
             install(debian, dist)

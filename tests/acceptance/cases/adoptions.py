@@ -4,7 +4,7 @@ import random
 
 from example_files import Peer, thread_of, with_events
 
-from harness.judged import asked, told_first, where
+from harness.judged import make_case, told_first, where
 from harness.making import absent_proof, link_proof, proof_bytes, thread_proof
 from harness.samples import lost_history, reshaping, woven
 from timeweave_reference.anchors import anchors_to_bytes
@@ -16,7 +16,7 @@ from timeweave_reference.timelines import Timeline
 def adoption(name, data, anchors, *proofs):
     """The case of the bytes of a history, of anchors and of the bytes of proofs."""
     files = {f"p{number}": proof for number, proof in enumerate(proofs, 1)}
-    return asked(f"adopt: {name}", ["adopt", "h", "k", *files], {"h": data, "k": anchors_to_bytes(anchors), **files})
+    return make_case(f"adopt: {name}", ["adopt", "h", "k", *files], {"h": data, "k": anchors_to_bytes(anchors), **files})
 
 
 def wanted(name, told, *given):

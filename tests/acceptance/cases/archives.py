@@ -7,7 +7,7 @@ from itertools import combinations
 
 from cases.generated import changed
 from harness import large
-from harness.judged import answered, asked, grouped, judged, renamed, where
+from harness.judged import answered, grouped, make_case, make_proof_case, renamed, where
 from harness.making import absent_bytes, absent_proof, link_bytes, link_proof, part_bytes, path_bytes, proof_bytes, thread_bytes, thread_proof
 from harness.samples import counted_timeline, flipped, reshaping, shaped, timed, woven
 from timeweave_reference.archives import (
@@ -25,12 +25,12 @@ from timeweave_reference.timelines import Timeline
 
 def accepted(name, data, line, top, text):
     """The case of a good proof."""
-    return answered(judged(name, data, line.name, top, line.auths[top]), 0, text)
+    return answered(make_proof_case(name, data, line.name, top, line.auths[top]), 0, text)
 
 
 def rejected(name, data, line, top, reason):
     """The case of a proof against which this reason stands."""
-    return answered(judged(name, data, line.name, top, line.auths[top]), 1, f"rejected {reason}\n")
+    return answered(make_proof_case(name, data, line.name, top, line.auths[top]), 1, f"rejected {reason}\n")
 
 
 class Sample:
@@ -141,7 +141,7 @@ def faulty(kind, line, make, faults):
         data = flipped(data)
     fields = {1: f" {len(data)}", 2: "", 3: f" woven {top}"}.get(min(faults), " 0")
     auth = line.auths[max(STEP, top)]
-    case = judged(
+    case = make_proof_case(
         f"kind {kind}, {', '.join(FAULTS[fault] for fault in faults)}", data + b"\0" * (1 in faults), "woven", top + (3 in faults),
         flipped(auth) if 4 in faults else auth,
     )
@@ -169,14 +169,14 @@ def other_anchors():
     for kind, line, make in archive_samples():
         data = make(TOP)
         for service, pos, of in (("other", TOP, TOP), ("woven", TOP - 1, TOP - 1), ("woven", TOP, TOP - 1), ("woven", STEP, STEP)):
-            yield judged(f"kind {kind}, {service} {pos}, that of {of}", data, service, pos, line.auths[of])
+            yield make_proof_case(f"kind {kind}, {service} {pos}, that of {of}", data, service, pos, line.auths[of])
 
 
 def numbers_put(name, data, line, place, width, values):
     """The cases of other numbers in a field."""
     for value in values:
         new = data[:place] + be(value, width) + data[place + width :]
-        yield judged(f"{name} {value}", new, line.name, TOP, line.auths[TOP])
+        yield make_proof_case(f"{name} {value}", new, line.name, TOP, line.auths[TOP])
 
 
 def numbers_in_fields():
@@ -273,7 +273,7 @@ def wrong_absences():
         for number, way in enumerate(way for way in other_ways(shown) if way != list(shown.ancestors)):
             yield rejected(f"{key}, {number}", absent_bytes(part, key, TreeProof(None, way)), line, TOP, "7 BadTree 0")
         for other in gaps:
-            yield judged(f"{other} by the way to {key}", absent_bytes(part, other, shown), "woven", TOP, line.auths[TOP])
+            yield make_proof_case(f"{other} by the way to {key}", absent_bytes(part, other, shown), "woven", TOP, line.auths[TOP])
 
 
 def other_archives():
@@ -285,9 +285,9 @@ def other_archives():
             tree = sample.trees[archive]
             for entry in listed(tree)[:1]:
                 data = thread_proof(line, tree, step, TOP, entry)
-                yield judged(f"a thread of {archive} at {step}", data, "woven", TOP, line.auths[TOP])
+                yield make_proof_case(f"a thread of {archive} at {step}", data, "woven", TOP, line.auths[TOP])
             data = absent_proof(line, tree, step, TOP, ("zz", 1))
-            yield judged(f"absent in {archive} at {step}", data, "woven", TOP, line.auths[TOP])
+            yield make_proof_case(f"absent in {archive} at {step}", data, "woven", TOP, line.auths[TOP])
 
 
 def other_links():
@@ -299,7 +299,7 @@ def other_links():
             data = link_bytes("woven", step, top, line.auths[other], path)
             yield rejected(f"that of {other} at {step}", data, line, top, "4 BadPath 0")
             data = link_bytes("woven", step, top, line.auths[step], path_bytes(line, top, other))
-            yield judged(f"the path to {other} for {step}", data, "woven", top, line.auths[top])
+            yield make_proof_case(f"the path to {other} for {step}", data, "woven", top, line.auths[top])
 
 
 # ---- limits
@@ -341,8 +341,8 @@ def large_archives():
                 proof = large.LargeProof(kind, place, percent)
                 assert 20 <= proof.ancestors <= 40
                 name = f"kind {kind}, entry {place}, {proof.ancestors} ancestors"
-                yield answered(judged(name, proof.data, large.SERVICE, large.TOP, proof.auth), 0, proof.accepted)
-                yield judged(f"{name}, last byte", flipped(proof.data), large.SERVICE, large.TOP, proof.auth)
+                yield answered(make_proof_case(name, proof.data, large.SERVICE, large.TOP, proof.auth), 0, proof.accepted)
+                yield make_proof_case(f"{name}, last byte", flipped(proof.data), large.SERVICE, large.TOP, proof.auth)
 
 
 # ---- anchors files and the strict form
@@ -352,14 +352,14 @@ def from_file(case, form):
     """The same case with its anchor in a file, behind one of another service."""
     _, _, service, pos, auth = case["words"]
     anchors = f"zz 1 {'0' * 64}\n{service} {pos} {auth}\n".encode()
-    of_file = asked(f"{form}: {case['name']}", [form, "p", "k"], {**case["files"], "k": anchors})
+    of_file = make_case(f"{form}: {case['name']}", [form, "p", "k"], {**case["files"], "k": anchors})
     return where(of_file, lambda status, output: (status, output) == (case["status"], case["bytes"]))
 
 
 def good_and_faulty():
     """Of each kind that is built a good proof, and one of each fault."""
     for kind, line, make in sample_proofs():
-        yield judged(f"kind {kind}", make(TOP), line.name, TOP, line.auths[TOP])
+        yield make_proof_case(f"kind {kind}", make(TOP), line.name, TOP, line.auths[TOP])
     yield from (case for case in sets_of_faults() if "," not in case["name"].partition(", ")[2])
 
 

@@ -4,7 +4,7 @@ import random
 
 from example_files import CHAIN, receipt_of, receipts_of
 
-from harness.judged import asked
+from harness.judged import make_case
 from timeweave_reference.atlases import Hop
 from timeweave_reference.fields import LAST_STEP
 from timeweave_reference.receipts import MOST_FILES, MOST_RECEIPTS
@@ -15,7 +15,7 @@ CIRCLE = (Hop("a", 5, "b", 6), Hop("b", 7, "c", 3), Hop("c", 4, "b", 2))
 def atlas(name, service, step, *files):
     """The case of files, each the bytes of one."""
     named = {f"r{number}": data for number, data in enumerate(files)}
-    return asked(f"atlas: {name}", ["atlas", service, str(step), *named], named)
+    return make_case(f"atlas: {name}", ["atlas", service, str(step), *named], named)
 
 
 def worked():

@@ -4,7 +4,7 @@ import random
 
 from example_files import with_events
 
-from harness.judged import asked, told_first
+from harness.judged import make_case, told_first
 from harness.making import absent_proof, link_proof, proof_bytes, thread_proof
 from harness.samples import reshaping, timed, woven
 from harness.ways import Way, chain_of_three, with_carried
@@ -18,7 +18,7 @@ from timeweave_reference.timelines import Timeline
 def audit(name, data, anchors, *histories):
     """The case of a proof under anchors and of histories, each the bytes of a file."""
     files = {f"h{number}": file for number, file in enumerate(histories)}
-    return asked(f"audit: {name}", ["audit", "p", "k", *files], {"p": data, "k": anchors_to_bytes(anchors), **files})
+    return make_case(f"audit: {name}", ["audit", "p", "k", *files], {"p": data, "k": anchors_to_bytes(anchors), **files})
 
 
 def wanted(name, told, data, anchors, *histories):

@@ -20,7 +20,7 @@ FLAGS = ["-std=c11", "-Wall", "-Wextra", "-Werror", "-I", TOP / "include"]
 FORMS = {"verify": 2, "strict": 2, "checkmap": 3, "checkfork": 2, "contradict": 5, "receiver": 3}
 
 
-def asked(forms=tuple(FORMS)):
+def list_questions(forms=tuple(FORMS)):
     """The vectors that the examples judge, each with the name of its file; a line in words is left out."""
     return [(name, vector) for name, vector in vectors() if vector["words"][0] in forms and len(vector["words"]) == 1 + FORMS[vector["words"][0]]]
 
@@ -74,14 +74,14 @@ def in_c(room):
     """all vectors, by the example in C"""
     whole_library()
     checked_run([needs("cc", "gcc"), *FLAGS, "-o", room.folder / "judge", FOLDER / "judge.c", ARCHIVE])
-    judge_all(room, by(room, room.folder / "judge"), asked())
+    judge_all(room, by(room, room.folder / "judge"), list_questions())
 
 
 def in_rust(room):
     """all vectors, by the example in Rust"""
     whole_library()
     checked_run([needs("rustc", "rustc"), "-D", "warnings", "-L", ARCHIVE.parent, "-l", "static=timeweave", "-o", room.folder / "judge", FOLDER / "judge.rs"])
-    judge_all(room, by(room, room.folder / "judge"), asked())
+    judge_all(room, by(room, room.folder / "judge"), list_questions())
 
 
 def in_go(room):
@@ -90,14 +90,14 @@ def in_go(room):
     needs("cc", "gcc")
     environment = {**os.environ, "GOCACHE": str(room.folder / "cache"), "GOFLAGS": "", "GOPROXY": "off", "GOTOOLCHAIN": "local", "CGO_ENABLED": "1"}
     checked_run([needs("go", "golang-go"), "build", "-o", room.folder / "judge", FOLDER / "judge.go"], env=environment)
-    judge_all(room, by(room, room.folder / "judge"), asked())
+    judge_all(room, by(room, room.folder / "judge"), list_questions())
 
 
 def in_javascript(room):
     """all vectors, by the module for JavaScript, and some by its example"""
     built()
     node, forms = needs("node", "nodejs"), [form for form in FORMS if f"timeweave_{form}".encode() in MODULE.read_bytes()]
-    rows = asked(forms)
+    rows = list_questions(forms)
     wanted, told = f"{len(rows)} tried\n", checked_run([node, HARNESS / "vectors.mjs", TOP / "vectors", *forms])
     if told != wanted:
         raise Wrong(told)
@@ -107,7 +107,7 @@ def in_javascript(room):
 def in_python(room):
     """all vectors, by the module for Python, and some by its example"""
     whole_library()
-    for name, vector in asked():
+    for name, vector in list_questions():
         try:
             call = getattr(timeweave, vector["words"][0])
             found = timeweave.ACCEPTED, call(*(bytes.fromhex(vector["files"][file]) for file in vector["words"][1:])).text
@@ -119,7 +119,7 @@ def in_python(room):
             found = timeweave.UNREADABLE, f"unreadable {bad}\n"
         if found != (vector["status"], vector["text"]):
             raise Wrong(f"  {name}: {vector['name']}\n  wanted {vector['status']} {vector['text']!r}\n  got    {found}")
-    judge_all(room, by(room, sys.executable, FOLDER / "judge.py"), some(asked()))
+    judge_all(room, by(room, sys.executable, FOLDER / "judge.py"), some(list_questions()))
 
 
 def cases():

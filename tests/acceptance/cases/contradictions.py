@@ -8,9 +8,9 @@ from itertools import product
 
 from example_files import high_of, low_of
 
-from harness.asked_pairs import FOUND_PAIRS, can_ask, difference, names_innocent, read_pair, wanted
+from harness.asked_pairs import FOUND_PAIRS, can_ask, difference, names_innocent, read_pair
 from harness.drawn_pairs import drawn_recipe, pair_of
-from harness.library import ARCHIVE, built_library, checked_run, reach_difference
+from harness.library import ARCHIVE, built_library, checked_run, row_difference
 from harness.places import LONGEST, TOP
 from harness.rooms import Skipped, Wrong, case, needs
 from timeweave_reference import contradict
@@ -64,7 +64,7 @@ def files(history, top):
 
 
 @cache
-def shown(is_broken, top):
+def list_shown(is_broken, top):
     """These files, in a list."""
     return list(files(keeper(is_broken), top))
 
@@ -73,7 +73,7 @@ def compared(*asked):
     """What the reference answers, where the library answers the same."""
     status, text = contradict(*asked)
     given = [*asked, b""][:5]
-    wrong = reach_difference("c", given, status, text)
+    wrong = row_difference(("c", status, given, text))
     if wrong:
         raise Wrong(f"  of {[data.hex() for data in given]}\n{wrong}")
     return status, text
@@ -82,7 +82,7 @@ def compared(*asked):
 def pairs(is_broken, tops, link=b""):
     """What is answered of each pair of files under these two tops."""
     history = keeper(is_broken)
-    for first, second in product(*(shown(is_broken, top) for top in tops)):
+    for first, second in product(*(list_shown(is_broken, top) for top in tops)):
         yield compared(first, line(history, tops[0]), second, line(history, tops[1]), link)
 
 
@@ -184,8 +184,7 @@ def by_chance(first, room):
         pair = pair_of(recipe)
         if pair and names_innocent(recipe, pair):
             raise Wrong(f"  pair {number} of seed {CASE_SEED}: of a history that keeps the rules the reference says that it broke one")
-        # (the forms' letters are the first ones of their functions; what is asked so, C and the page's module are asked later)
-        differs = reach_difference(pair.function[0], pair.parts, *wanted(pair)) if pair else None
+        differs = difference(pair) if pair else None
         if differs:
             raise Wrong(f"  pair {number}; `python3 tests/acceptance/fuzz_pairs.py {number + 1} {CASE_SEED}` shrinks it, and writes it into a file\n{differs}")
 

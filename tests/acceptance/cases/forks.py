@@ -5,7 +5,7 @@ from itertools import product
 
 from example_files import Fork
 
-from harness.judged import answered, asked, grouped, is_accepted
+from harness.judged import answered, grouped, is_accepted, make_case
 from harness.making import link_proof, path_bytes, thread_proof
 from harness.samples import fork_parts, sample_fork
 from timeweave_reference.anchors import anchors_to_bytes
@@ -21,20 +21,20 @@ def evidence_of(*parts):
     return made if isinstance(made, int) else made.to_bytes()
 
 
-def judged(name, data, anchors):
+def judge_evidence(name, data, anchors):
     """The case of evidence under anchors."""
-    return asked(name, ["checkfork", "e", "k"], {"e": data, "k": anchors_to_bytes(anchors)})
+    return make_case(name, ["checkfork", "e", "k"], {"e": data, "k": anchors_to_bytes(anchors)})
 
 
 def rejected(name, data, anchors, reason):
     """The case of evidence against which this reason stands."""
-    return answered(judged(name, data, anchors), 1, f"rejected {reason}\n")
+    return answered(judge_evidence(name, data, anchors), 1, f"rejected {reason}\n")
 
 
 def accusing(name, parts):
     """The case of parts of which evidence is made, as the reference makes it."""
     names = ["first", "second", "link"][: len(parts)]
-    return asked(name, ["accuse", *names], dict(zip(names, parts)))
+    return make_case(name, ["accuse", *names], dict(zip(names, parts)))
 
 
 def forks():
@@ -44,11 +44,11 @@ def forks():
         for common in sorted({0, k - 1, k, m}):
             fork, name = Fork(common, k, m, k % 3), f"{k} and {m}, {common} common"
             yield accusing(name, fork_parts(fork))
-            case = judged(name, fork.evidence().to_bytes(), fork.anchors())
+            case = judge_evidence(name, fork.evidence().to_bytes(), fork.anchors())
             yield is_accepted(case) if common < k else answered(case, 1, "rejected 11 NoConflict\n")
             if k == m:
                 yield accusing(f"{name}, without a link", fork_parts(fork)[:2])
-                yield judged(f"{name}, without a link", evidence_of(fork.proof(0), fork.proof(1)), fork.anchors())
+                yield judge_evidence(f"{name}, without a link", evidence_of(fork.proof(0), fork.proof(1)), fork.anchors())
 
 
 def least():
@@ -57,7 +57,7 @@ def least():
     data = evidence_of(fork.proof(0, 1), fork.proof(1, 1))
     assert len(data) == 568
     anchors = {history.name: (1, history.line().auths[1]) for history in fork.receivers}
-    yield judged("least", data, anchors)
+    yield judge_evidence("least", data, anchors)
     yield rejected("cut", data[:-1], anchors, "1 Malformed 567")
     yield rejected("longer", data + b"\0", anchors, "1 Malformed 568")
     yield rejected("empty", b"", anchors, "1 Malformed 0")
@@ -69,7 +69,7 @@ def each_change():
     data, anchors = sample_fork().evidence().to_bytes(), sample_fork().anchors()
     for place in range(len(data)):
         new = data[:place] + bytes([data[place] ^ 1]) + data[place + 1 :]
-        yield judged(f"byte {place}", new, anchors)
+        yield judge_evidence(f"byte {place}", new, anchors)
         yield rejected(f"cut to {place}", data[:place], anchors, f"1 Malformed {place}")
 
 
@@ -85,7 +85,7 @@ def several_faults():
         data = b"TWV1" + parts[0] + parts[1] + link + path_bytes(fork.shown[1], fork.m, fork.k)
         wanted = "10 Part 1 7" if one else "10 Part 2 7" if two else "11 NoConflict" if same else "12 BadLink" if path else None
         name = f"first {one}, second {two}, same {same}, path {path}"
-        yield rejected(name, data, fork.anchors(), wanted) if wanted else judged(name, data, fork.anchors())
+        yield rejected(name, data, fork.anchors(), wanted) if wanted else judge_evidence(name, data, fork.anchors())
 
 
 def other_anchors():

@@ -5,7 +5,7 @@ from functools import partial
 from harness import kept
 from harness.places import FOUND
 from harness.rooms import Wrong, case
-from harness.trials import difference, told
+from harness.trials import describe_trial, difference
 
 
 def as_now(path, room):
@@ -13,7 +13,7 @@ def as_now(path, room):
     trial = kept.read(path)
     differs = difference(room.program, trial)
     if differs:
-        raise Wrong(told(trial, differs))
+        raise Wrong(describe_trial(trial, differs))
 
 
 def cases():

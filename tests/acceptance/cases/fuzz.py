@@ -4,7 +4,7 @@ from functools import partial
 
 from harness.drawn import drawn
 from harness.rooms import Wrong, case
-from harness.trials import difference, told
+from harness.trials import describe_trial, difference
 
 # So many cases of so many trials.
 CASES, CASE_RUNS, CASE_SEED = 4, 500, "acceptance"
@@ -16,7 +16,7 @@ def by_chance(first, room):
         trial = drawn(CASE_SEED, number)
         differs = difference(room.program, trial)
         if differs:
-            raise Wrong(f"  trial {number}; `make fuzz SEED={CASE_SEED}` shrinks it, and writes it into a file\n{told(trial, differs)}")
+            raise Wrong(f"  trial {number}; `make fuzz SEED={CASE_SEED}` shrinks it, and writes it into a file\n{describe_trial(trial, differs)}")
 
 
 def cases():

@@ -3,7 +3,7 @@
 import random
 
 from harness.deep import deep_proof
-from harness.judged import answered, asked, grouped, is_accepted, judged, renamed
+from harness.judged import answered, grouped, is_accepted, make_case, make_proof_case, renamed
 from harness.making import accepted_text, opening_bytes, proof_bytes
 from harness.samples import counted_timeline, event_text, reshaping, timed, woven
 from timeweave_reference.archives import listed
@@ -17,7 +17,7 @@ def accepted(name, line, step, index, top):
     """The case of an honest proof: it has to be accepted."""
     data = proof_bytes(line, step, index, top)
     text = accepted_text(line.name, step, index, line.events(step)[index], line.times[step - 1])
-    return answered(judged(name, data, line.name, top, line.auths[top]), 0, text)
+    return answered(make_proof_case(name, data, line.name, top, line.auths[top]), 0, text)
 
 
 def paths():
@@ -50,7 +50,7 @@ def deep():
     events = [event_text(1, k) for k in range(1024)]
     for step, top in ((1, 2**21 - 1), (1, 2**40 - 1), (2**39, 2**40 - 1), (2**39 + 1, 2**40 - 1), (2**39 - 1, 2**39)):
         data, auth = deep_proof("deep", step, 777, top, events, b"deep")
-        yield is_accepted(judged(f"from {top} to {step}", data, "deep", top, auth))
+        yield is_accepted(make_proof_case(f"from {top} to {step}", data, "deep", top, auth))
 
 
 def changed(data, service, pos, auth, seed):
@@ -59,11 +59,11 @@ def changed(data, service, pos, auth, seed):
     for place in range(len(data)):
         for value in {data[place] ^ 1, rand.randrange(256)} - {data[place]}:
             new = data[:place] + bytes([value]) + data[place + 1 :]
-            yield judged(f"byte {place} is {value}", new, service, pos, auth)
+            yield make_proof_case(f"byte {place} is {value}", new, service, pos, auth)
     for size in range(len(data)):
-        yield judged(f"cut to {size}", data[:size], service, pos, auth)
+        yield make_proof_case(f"cut to {size}", data[:size], service, pos, auth)
     for pad in (b"\x00", b"\xff", data):
-        yield judged(f"{len(pad)} bytes more", data + pad, service, pos, auth)
+        yield make_proof_case(f"{len(pad)} bytes more", data + pad, service, pos, auth)
 
 
 def all_changed():
@@ -73,11 +73,11 @@ def all_changed():
         yield renamed(case, f"13 to 5, {case['name']}")
     for index in range(3):
         other = proof_bytes(line, 5, index, 13)
-        yield judged("another step's authenticator", other, "changed", 13, line.auths[12])
-        yield judged("another step", other, "changed", 12, line.auths[12])
-        yield judged("another service", other, "change", 13, line.auths[13])
+        yield make_proof_case("another step's authenticator", other, "changed", 13, line.auths[12])
+        yield make_proof_case("another step", other, "changed", 12, line.auths[12])
+        yield make_proof_case("another service", other, "change", 13, line.auths[13])
         swapped = data[: -64 - 11] + other[-64 - 11 : -64] + data[-64:]
-        yield judged(f"event {index} with the path of event 1", swapped, "changed", 13, line.auths[13])
+        yield make_proof_case(f"event {index} with the path of event 1", swapped, "changed", 13, line.auths[13])
 
 
 def other_kinds():
@@ -85,8 +85,8 @@ def other_kinds():
     line = Timeline("a", [[b""]])
     data = proof_bytes(line, 1, 0, 1)
     for kind in (0, *KINDS, 6, 9, 255):
-        yield judged(f"kind {kind}", data[:4] + bytes([kind]) + data[5:], "a", 1, line.auths[1])
-        yield judged(f"kind {kind}, and nothing else", data[:4] + bytes([kind]), "a", 1, line.auths[1])
+        yield make_proof_case(f"kind {kind}", data[:4] + bytes([kind]) + data[5:], "a", 1, line.auths[1])
+        yield make_proof_case(f"kind {kind}, and nothing else", data[:4] + bytes([kind]), "a", 1, line.auths[1])
 
 
 def above_the_top():
@@ -95,12 +95,12 @@ def above_the_top():
     for step, top in ((2, 1), (8, 3), (5, 4)):
         data = proof_bytes(line, step, 1, top)
         for service, pos in (("order", top), ("other", 1)):
-            yield judged(f"step {step} under {top}, {service}", data, service, pos, line.auths[top])
+            yield make_proof_case(f"step {step} under {top}, {service}", data, service, pos, line.auths[top])
 
 
-def shown(name, data, step, index):
+def show_case(name, data, step, index):
     """The case of showing an event of these bytes, as the reference does."""
-    return asked(name, ["show", "h", str(step), str(index)], {"h": data})
+    return make_case(name, ["show", "h", str(step), str(index)], {"h": data})
 
 
 def histories():
@@ -112,7 +112,7 @@ def histories():
         for step in range(len(steps) + 2):
             events = steps[step - 1].events if 1 <= step <= len(steps) else []
             for index in range(len(events) + 1):
-                yield shown(f"{len(steps)} steps, {name}, event {index} of step {step}", data, step, index)
+                yield show_case(f"{len(steps)} steps, {name}, event {index} of step {step}", data, step, index)
 
 
 def archives_of_any_shape():
@@ -123,7 +123,7 @@ def archives_of_any_shape():
         history.steps[-1].nodes += [(0, entry, 0) for entry in spare[: 5 * (seed % 2)]]
         for step, recorded in enumerate(history.steps, 1):
             for index in range(len(recorded.events) + 1):
-                yield shown(f"{seed}, event {index} of step {step}", history.to_bytes(), step, index)
+                yield show_case(f"{seed}, event {index} of step {step}", history.to_bytes(), step, index)
 
 
 def shown_trees():
@@ -132,9 +132,9 @@ def shown_trees():
     for count in range(1, 65):
         data = history_to_bytes("table", [Step(table[:count])])
         for index in range(count):
-            yield shown(f"event {index} of {count}", data, 1, index)
+            yield show_case(f"event {index} of {count}", data, 1, index)
     many = history_to_bytes("many", [Step([bytes([i // 256, i % 256]) for i in range(1024)])])
-    yield shown("event 777 of 1024", many, 1, 777)
+    yield show_case("event 777 of 1024", many, 1, 777)
 
 
 def shown_and_accepted():
@@ -143,8 +143,8 @@ def shown_and_accepted():
     data, auth = history.to_bytes(), history.line().auths[-1]
     for step, recorded in enumerate(history.steps, 1):
         for index in range(len(recorded.events)):
-            proof = shown("", data, step, index)["bytes"]
-            yield is_accepted(judged(f"event {index} of step {step}", proof, "woven", 33, auth))
+            proof = show_case("", data, step, index)["bytes"]
+            yield is_accepted(make_proof_case(f"event {index} of step {step}", proof, "woven", 33, auth))
 
 
 def changed_histories():
@@ -153,7 +153,7 @@ def changed_histories():
     for name, step in (("an event", event), ("a thread", thread)):
         data = history_to_bytes("a", [step])
         for size in range(len(data)):
-            yield shown(f"{name}, cut to {size}", data[:size], 1, 0)
+            yield show_case(f"{name}, cut to {size}", data[:size], 1, 0)
     history = woven(7, "small")
     data = history.to_bytes()
     last = max(number for number, step in enumerate(history.steps, 1) if step.events)
@@ -161,10 +161,10 @@ def changed_histories():
     for place in range(len(data)):
         for value in {data[place] ^ 1, rand.randrange(256)} - {data[place]}:
             new = data[:place] + bytes([value]) + data[place + 1 :]
-            yield shown(f"byte {place} is {value}", new, last, 0)
+            yield show_case(f"byte {place} is {value}", new, last, 0)
     for size in range(len(data)):
-        yield shown(f"cut to {size}", data[:size], last, 0)
-    yield shown("one byte more", data + b"\x00", last, 0)
+        yield show_case(f"cut to {size}", data[:size], last, 0)
+    yield show_case("one byte more", data + b"\x00", last, 0)
 
 
 def broken_by_hand():
@@ -205,7 +205,7 @@ def times():
         last = timeline_of("woven", steps)
         for step, recorded in enumerate(steps, 1):
             for index in range(len(recorded.events) + 1):
-                yield shown(f"event {index} of step {step} of {count}", data, step, index)
+                yield show_case(f"event {index} of step {step} of {count}", data, step, index)
             for index in range(len(recorded.events)):
                 yield accepted(f"step {step} of {count}, event {index}", last, step, index, count)
 
@@ -219,23 +219,23 @@ def changed_times():
     for name, times_of in (("no time", None), ("another time", [4]), ("time 0", [0])):
         other = Timeline("t", [[b""]], None, times_of)
         opening = opening_bytes(other, 1)
-        yield judged(name, data[:37] + opening + data[145:], "t", 1, line.auths[1])
+        yield make_proof_case(name, data[:37] + opening + data[145:], "t", 1, line.auths[1])
     plain = Timeline("t", [[b""]])
     for time in (0, 5):
         own = Timeline("t", [[b""]], None, [time])
         opening = opening_bytes(own, 1)
         least = proof_bytes(plain, 1, 0, 1)
-        yield judged(f"time {time} put on", least[:37] + opening + least[137:], "t", 1, plain.auths[1])
+        yield make_proof_case(f"time {time} put on", least[:37] + opening + least[137:], "t", 1, plain.auths[1])
     event = Step([b""], time=5)
     thread = Step(thread=("b", 258, bytes(32)), nodes=[(0, 1, 0)], root=1, time=2**40 - 1)
     for name, steps in (("an event", [event]), ("a thread", [thread]), ("both", [event, thread])):
         data = history_to_bytes("a", steps)
         for size in range(len(data)):
-            yield shown(f"{name}, cut to {size}", data[:size], 1, 0)
+            yield show_case(f"{name}, cut to {size}", data[:size], 1, 0)
         for place in range(28, len(data)):
             for value in {0, data[place] ^ 1, data[place] ^ 2, 128} - {data[place]}:
                 new = data[:place] + bytes([value]) + data[place + 1 :]
-                yield shown(f"{name}, byte {place} is {value}", new, 1, 0)
+                yield show_case(f"{name}, byte {place} is {value}", new, 1, 0)
 
 
 def count_words():
@@ -251,8 +251,8 @@ def count_words():
     for word in words:
         for time in times_after if word.startswith("8") else [""]:
             new = front + bytes.fromhex(word + time) + back
-            yield judged(f"word {word}, time {time or 'none'}", new, "t", 1, line.auths[1])
-            yield judged(f"word {word}, time {time or 'none'}, cut", new[: 105 + len(time) // 2], "t", 1, line.auths[1])
+            yield make_proof_case(f"word {word}, time {time or 'none'}", new, "t", 1, line.auths[1])
+            yield make_proof_case(f"word {word}, time {time or 'none'}, cut", new[: 105 + len(time) // 2], "t", 1, line.auths[1])
 
 
 def falling_times():
@@ -260,12 +260,12 @@ def falling_times():
     for number, times_of in enumerate(([5, 4], [5, None, 4], [5, None, 5, 4], [5, 5, 6, 2**40 - 1, 6], [1, 0], [None, 3, None, None, 2])):
         steps = [Step([b"x"], time=time) for time in times_of]
         data = history_to_bytes("h", steps)
-        yield answered(shown(f"{number}", data, 1, 0), 9, f"unsound h step {len(steps)} rule 7\n")
+        yield answered(show_case(f"{number}", data, 1, 0), 9, f"unsound h step {len(steps)} rule 7\n")
     for number, times_of in enumerate(([5, 5], [None, None], [0, None, 0, 0], [None, 2**40 - 1, None, 2**40 - 1])):
         steps = [Step([b"x"], time=time) for time in times_of]
-        yield is_accepted(shown(f"{number}, sound", history_to_bytes("h", steps), 2, 0))
+        yield is_accepted(show_case(f"{number}, sound", history_to_bytes("h", steps), 2, 0))
     heavy = Step([bytes(1024)] * 65, time=4)
-    yield shown("too many bytes of events, and a time below", history_to_bytes("h", [Step([b"x"], time=5), heavy]), 1, 0)
+    yield show_case("too many bytes of events, and a time below", history_to_bytes("h", [Step([b"x"], time=5), heavy]), 1, 0)
 
 
 def swapped_labels():
@@ -275,19 +275,19 @@ def swapped_labels():
     labels = [data[-96:-64], data[-64:-32], data[-32:]]
     for one, two, three in ((1, 0, 2), (0, 2, 1), (2, 1, 0)):
         turned = data[:-96] + labels[one] + labels[two] + labels[three]
-        yield judged(f"labels {one}, {two}, {three}", turned, "labels", 1, line.auths[1])
+        yield make_proof_case(f"labels {one}, {two}, {three}", turned, "labels", 1, line.auths[1])
     place = len(data) - 96 - len(event_text(1, 2)) - 8
     for index in (0, 1, 3, 4, 5, 6):
-        yield judged(f"index {index}", data[:place] + be(index, 4) + data[place + 4 :], "labels", 1, line.auths[1])
+        yield make_proof_case(f"index {index}", data[:place] + be(index, 4) + data[place + 4 :], "labels", 1, line.auths[1])
 
 
 def unsound_histories():
     """Each rule broken by hand, and histories of which one number of a node or a root is changed."""
     for rule, name, steps in broken_by_hand():
-        case = shown(name, history_to_bytes("a", steps), 1, 0)
+        case = show_case(name, history_to_bytes("a", steps), 1, 0)
         # (of rule 1 the step may be an earlier one than the last)
         yield case if rule == 1 else answered(case, 9, f"unsound h step {len(steps)} rule {rule}\n")
-    yield shown("as many bytes of events as may be", history_to_bytes("a", [Step([bytes(1024)] * 64)]), 1, 63)
+    yield show_case("as many bytes of events as may be", history_to_bytes("a", [Step([bytes(1024)] * 64)]), 1, 63)
     rand = random.Random("unsound")
     for number in range(150):
         steps = woven(rand.randint(2, 12), f"unsound {number}", *[reshaping(rand)] * (number % 2)).steps
@@ -301,7 +301,7 @@ def unsound_histories():
             changed_node = list(step.nodes[node])
             changed_node[field] = rand.randrange(limit)
             step.nodes[node] = tuple(changed_node)
-        yield shown(f"random, {number}", history_to_bytes("woven", steps), rand.randint(1, len(steps)), 0)
+        yield show_case(f"random, {number}", history_to_bytes("woven", steps), rand.randint(1, len(steps)), 0)
 
 
 def cases():

@@ -14,8 +14,9 @@ from pathlib import Path
 from unittest import mock
 
 import forms
+import judge_release
 
-from harness import library, seen
+from harness import library, packing, seen
 from harness.making import LEAST
 from harness.places import LONGEST, TOP
 from harness.rooms import Skipped, Wrong, case, checked, needs
@@ -80,17 +81,23 @@ def make_install(prefix, *words):
     return done, sorted(str(path.relative_to(prefix)) for path in Path(prefix).rglob("*") if not path.is_dir() or path.is_symlink())
 
 
-def install(room):
-    """what make install copies is what the table says, of what is built; the program, weft and the completion work, and what isn't built is told"""
-    import placed
+# What `make install` leaves out where it isn't built: the file that tells, the command that builds it, and how the paths begin that are left out with it.
+LEFT_OUT = (
+    ("lib/libtimeweave.so", "make lib", ("lib/", "include/")), ("web/timeweave.wasm", "make page", ("share/timeweave/web/",)),
+    ("tables/claims.md", "make tables", ("share/doc/timeweave/tables/",)),
+)  # fmt: skip
 
-    prefix, files = room.folder / "there", {"bin/timeweave": Path(room.program)}
+
+def install(room):
+    """what make install copies is what its lines say, of what is built; the program, weft and the completion work, and what isn't built is told"""
+    prefix = room.folder / "there"
     done, found = make_install(prefix, f"PROGRAM={room.program}")
-    built = [part for part in placed.parts() if not placed.missing(part, files)]
-    layout = placed.of_prefix("")
-    listed = sorted(layout.of(line.place) for line in placed.table() if line.part in built)
-    told = [command for part in placed.parts() for _, command in placed.missing(part, files) if f"`{command}`" not in done.stderr]
-    if done.returncode or found != listed or told or not {"program", "weft", "reference", "documents"} <= set(built):
+    files = {str(path.relative_to(TOP)): b"" for path in TOP.rglob("*") if path.is_file()} | {"Makefile": (TOP / "Makefile").read_bytes()}
+    table = judge_release.table(files, judge_release.ELSEWHERE, (TOP / "VERSION").read_text().strip())
+    missing = [(command, fronts) for part, command, fronts in LEFT_OUT if not (TOP / part).exists()]
+    listed = sorted(path for path in table if not any(path.startswith(fronts) for _, fronts in missing))
+    told = [command for command, _ in missing if f"`{command}`" not in done.stderr]
+    if done.returncode or found != listed or told or not {"bin/timeweave", "bin/weft", "bin/timeweave-unproved", "share/doc/timeweave/README.md"} <= set(found):
         raise Wrong(f"  {done}\n  more {set(found) - set(listed)}, less {set(listed) - set(found)}, not told {told}")
     closed = [path for path in prefix.rglob("*") if path.is_dir() and path.stat().st_mode & 0o777 != 0o755]
     if closed:
@@ -123,18 +130,17 @@ def install_elsewhere(room):
 PACKING = """
 import sys
 from pathlib import Path
-from unittest import mock
 sys.path.insert(0, sys.argv[1])
-import package
-package.write(Path(sys.argv[2]), {"bin/timeweave": Path(sys.argv[3])})
+import release
+release.write(Path(sys.argv[2]), dict(zip(release.PARTS, map(Path, sys.argv[3:]))))
 """
 
 
-def packed(room, name, program, *, is_other=False):
-    """Packs into a folder, as another user with other settings if that is said; answers the digests by the names."""
+def packed(room, name, files, *, is_other=False):
+    """Packs these built files into a folder, as another user with other settings if that is said; answers the digests by the names."""
     into = room.folder / name / "dist"
     into.mkdir(parents=True)
-    words = [sys.executable, "-c", PACKING, TOP / "tools", into, program]
+    words = [sys.executable, "-c", PACKING, TOP / "tools", into, *files.values()]
     environment = os.environ | {"GIT_CONFIG_COUNT": "1", "GIT_CONFIG_KEY_0": "safe.directory", "GIT_CONFIG_VALUE_0": "*"}
     settings = {"env": environment}
     if is_other:
@@ -150,32 +156,23 @@ def packed(room, name, program, *, is_other=False):
     return {line.split()[1]: line.split()[0] for line in (into / "SHA256SUMS").read_text().splitlines()}
 
 
-def can_pack():
-    """What packing needs is here; where it isn't, the case is skipped."""
-    needs("rt", "the kit")
-    needs("dpkg-shlibdeps", "dpkg-dev")
-    from package import PARTS
-
-    lacking = [part for part in PARTS if part != "bin/timeweave" and not (TOP / part).exists()]
-    if lacking:
-        raise Skipped(f"{lacking[0]} isn't built: `make page`")
-
-
 def same_packages(room):
     """packages have the same bytes, whoever makes them, in whatever folder, by whatever clock; a changed byte of the program changes those that have it"""
-    can_pack()
-    program = room.folder / "program"
-    shutil.copyfile(room.program, program)
-    program.chmod(0o755)
-    one, other = packed(room, "a", program), packed(room, "another/folder", program, is_other=True)
+    packing.can_pack()
+    files = {}
+    for part, path in packing.stand_ins(room.program).items():
+        files[part] = Path(shutil.copy(path, room.folder / part.replace("/", "_")))
+    one, other = packed(room, "a", files), packed(room, "another/folder", files, is_other=True)
     if one != other:
         raise Wrong(f"  differ: {[name for name in one if one[name] != other.get(name)]}")
+    program = files["bin/timeweave"]
     data = bytearray(program.read_bytes())
     data[-1] ^= 1
     program.write_bytes(data)
-    changed = {name for name, digest in packed(room, "changed", program).items() if digest != one[name]}
+    changed = {name for name, digest in packed(room, "changed", files).items() if digest != one[name]}
     version = (TOP / "VERSION").read_text().strip()
-    if changed != {"BUILD", f"timeweave_{version}_amd64.deb", f"timeweave-{version}-x86_64-linux.tar.gz"}:
+    wanted = {"BUILD", f"timeweave_{version}_amd64.deb", f"timeweave_{version}_amd64.buildinfo", f"timeweave-{version}-x86_64-linux.tar.gz"}
+    if changed != wanted:
         raise Wrong(f"  a changed program changed {changed}")
 
 
@@ -184,46 +181,78 @@ def untried_crates(room):
     needs("rt", "the kit")
     needs("git", "git")
     import body_trials
-    import package
+    import release
 
     wanted = body_trials.digests(body_trials.sources_here())
     told = {name: body_trials.Trial(digest, "2026-01-01", "0" * 40, 1) for name, digest in wanted.items()}
     for name, digest in (("tw_base", wanted["tw_base"]), ("tw_base", "0" * 64)):
         room.put("tried", body_trials.text_of(told | {name: told[name]._replace(digest=digest)}).encode())
-        with mock.patch.object(package, "TRIED", room.folder / "tried"):
-            said = [why for why in package.lacking() if "`make wrong-bodies`" in why]
+        with mock.patch.object(release, "TRIED", room.folder / "tried"):
+            said = [why for why in release.lacking() if "`make wrong-bodies`" in why]
         if said and digest == wanted[name] or digest != wanted[name] and (len(said) != 1 or f"of {name} weren't" not in said[0]):
             raise Wrong(f"  {digest}: {said}")
 
 
-def good_packages(room):
-    """packages have no scripts, and one file of settings; root owns their files, lintian finds no error, and a signature of the digests is accepted"""
-    can_pack()
-    into = room.folder / "dist"
-    into.mkdir()
-    import package
+# The scripts that a package may have besides its files: those by which Python's files are compiled (their words are held by released.py).
+CONTROL = {"./", "./control", "./md5sums", "./shlibs", "./symbols", "./triggers", "./conffiles", "./postinst", "./prerm"}
 
-    key = room.folder / "key"
-    if shutil.which("ssh-keygen"):
-        subprocess.run(["ssh-keygen", "-q", "-t", "ed25519", "-N", "", "-f", key], check=True)
-    package.write(into, {"bin/timeweave": Path(room.program)}, key if key.exists() else None)
+
+def good_packages(room):
+    """packages have one file of settings, and scripts alone that compile what is of Python; root owns their files, and the program's bytes stay as they were built"""
+    into, version = packing.packed(room.program, (TOP / "VERSION").read_text().strip()), (TOP / "VERSION").read_text().strip()
     for path in sorted(into.glob("*.deb")):
         listed = subprocess.run(["dpkg-deb", "--ctrl-tarfile", path], check=True, capture_output=True).stdout
         names = subprocess.run(["tar", "-t"], input=listed, check=True, capture_output=True).stdout.decode().split()
         owners = {line.split()[1] for line in subprocess.run(["dpkg-deb", "-c", path], check=True, capture_output=True, text=True).stdout.splitlines()}
-        if not set(names) <= {"./", "./control", "./md5sums", "./shlibs", "./triggers", "./conffiles"} or owners != {"root/root"}:
+        scripts = {"./postinst", "./prerm"} if path.name.startswith(("timeweave_", "python3-")) else set()
+        if not set(names) <= CONTROL or {"./postinst", "./prerm"} & set(names) != scripts or owners != {"root/root"}:
             raise Wrong(f"  {path.name} has {names}, owned by {owners}")
         settings = subprocess.run(["dpkg-deb", "-I", path, "conffiles"], capture_output=True, text=True).stdout if "./conffiles" in names else ""
         if settings != ("/etc/timeweave.conf\n" if path.name.startswith("timeweave_") else ""):
             raise Wrong(f"  {path.name} has the settings {settings!r}")
-    if key.exists():
-        (room.folder / "signers").write_text(f"timeweave {key.with_suffix('.pub').read_text()}")
-        words = ["ssh-keygen", "-Y", "verify", "-f", room.folder / "signers", "-I", "timeweave", "-n", "timeweave", "-s", into / "SHA256SUMS.sig"]
-        subprocess.run(words, input=(into / "SHA256SUMS").read_bytes(), check=True, capture_output=True)
-    if shutil.which("lintian"):
-        done = subprocess.run(["lintian", "--allow-root", *sorted(into.glob("*.deb"))], capture_output=True, text=True, timeout=LONGEST)
-        if done.returncode or "E: " in done.stdout:
-            raise Wrong(f"  {done.stdout}{done.stderr}")
+    packing.unpacked(room.program, "timeweave", room.folder)
+    if (room.folder / "usr/bin/timeweave").read_bytes() != packing.stand_ins(room.program)["bin/timeweave"].read_bytes():
+        raise Wrong("  the packed program has other bytes than the built one")
+    told = subprocess.run(["dpkg-deb", "-f", into / f"timeweave_{version}_amd64.deb", "Recommends", "Suggests"], check=True, capture_output=True, text=True).stdout
+    if "Recommends: openssh-client\n" not in told or "python3-distributed" not in told:
+        raise Wrong(f"  the package recommends {told}")
+
+
+def clean_packages(room):
+    """lintian finds nothing in packages and the source package, but what is overridden, each with its reason"""
+    needs("lintian", "lintian")
+    import release
+
+    into = packing.packed(room.program, (TOP / "VERSION").read_text().strip())
+    release.pack_sources(room.folder)
+    found = [*room.folder.glob("*.dsc"), *sorted(into.glob("*.deb"))]
+    done = subprocess.run(["lintian", "--allow-root", "--tag-display-limit", "0", "--fail-on", "error,warning", *found], capture_output=True, text=True, timeout=LONGEST)
+    if done.returncode or re.search("^[EW]: ", done.stdout, re.M):
+        raise Wrong(f"  {done.stdout}{done.stderr}")
+    for path in sorted((TOP / "debian").glob("**/*lintian-overrides")):
+        lines = path.read_text().splitlines()
+        if any(not line.startswith("#") and not above.startswith("#") for above, line in zip(["", *lines], lines)):
+            raise Wrong(f"  {path.name} overrides something without a reason")
+
+
+def signed_packages(room):
+    """a signature of the packages' digests is accepted, and one of others isn't"""
+    needs("rt", "the kit")
+    needs("ssh-keygen", "openssh-client")
+    import release
+
+    key, into = room.folder / "key", room.folder / "dist"
+    into.mkdir()
+    room.put("dist/one", b"one")
+    subprocess.run(["ssh-keygen", "-q", "-t", "ed25519", "-N", "", "-f", key], check=True)
+    release.write_sums(into)
+    release.sign(into, key)
+    (room.folder / "signers").write_text(f"timeweave {key.with_suffix('.pub').read_text()}")
+    words = ["ssh-keygen", "-Y", "verify", "-f", room.folder / "signers", "-I", "timeweave", "-n", "timeweave", "-s", into / "SHA256SUMS.sig"]
+    for more, status in ((b"", 0), (b"more", 255)):
+        done = subprocess.run(words, input=(into / "SHA256SUMS").read_bytes() + more, capture_output=True)
+        if done.returncode != status:
+            raise Wrong(f"  {done}")
 
 
 def stamps(room):
@@ -298,11 +327,8 @@ def compared(room):
 
 def units(room):
     """systemd finds nothing wrong with the units of the package; each setting of theirs is known; the user, the folder and the umask are those that are promised"""
-    import package
-    import placed
-
     needs("systemd-analyze", "systemd")
-    placed.copy(["service"], package.DEBIAN, room.folder)
+    subprocess.run(["make", "-s", "install-service", f"DESTDIR={room.folder}", "PREFIX=/usr"], cwd=TOP, check=True)
     checked = ["systemd-analyze", "verify", "--man=no", "--recursive-errors=no", f"--root={room.folder}", "timeweave.service", "timeweave.timer"]
     done = subprocess.run(checked, capture_output=True, text=True, timeout=LONGEST)
     if done.returncode or done.stdout + done.stderr:
@@ -315,29 +341,36 @@ def units(room):
         raise Wrong("  its program can't be run")
 
 
-def settings_kept(room):
-    """installing, an upgrade and the removal of the package run nothing, and leave the settings that a person changed; a purge takes these alone, and no data"""
-    import package
+# What stands for Debian's compiler of Python's files, and for what takes away what that made: each notes its words.
+COMPILER = """#!/bin/sh
+echo "${0##*/} $*" >> "$NOTED"
+"""
 
+
+def settings_kept(room):
+    """installing, an upgrade and the removal of the package run nothing but Python's compiler over its own files, and leave the settings that a person changed; a purge
+    takes these alone, and no data"""
     dpkg = needs("dpkg", "dpkg")
-    needs("dpkg-deb", "dpkg")
     if os.geteuid():
         raise Skipped("dpkg installs as root alone")
-    root, made = room.folder / "root", []
+    version = (TOP / "VERSION").read_text().strip()
+    made = [next(packing.packed(room.program, version + more).glob("timeweave_*.deb")) for more in ("", "+1")]
+    root = room.folder / "root"
     for folder in ("var/lib/dpkg/info", "var/lib/dpkg/updates", "var/lib/timeweave/log", "backup"):
         (root / folder).mkdir(parents=True)
     (root / "var/lib/dpkg/status").touch()
-    fields = {"Package": "timeweave", "Parts": "service", "Section": "utils", "Depends": "python3", "Description": "units of Timeweave"}
-    for version in ("1.0", "1.1"):
-        (room.folder / version).mkdir()
-        made.append(package.package(fields, package.Making(room.folder / version, 1, {}, version)))
     data = {root / "var/lib/timeweave/log/timeline.tw": b"store", root / "backup/log": b"backup"}
     for path, text in data.items():
         path.write_bytes(text)
+    for name in ("py3compile", "py3clean"):
+        room.put(name, COMPILER.encode())
+        (room.folder / name).chmod(0o755)
+    room.put("noted", b"")
 
     def run(*words):
-        environment = os.environ | {"DPKG_ROOT": "", "DEBIAN_FRONTEND": "noninteractive"}
-        done = subprocess.run([dpkg, f"--root={root}", "--force-depends", *words], env=environment, capture_output=True, text=True, timeout=LONGEST, stdin=subprocess.DEVNULL)
+        known = {"PATH": f"{room.folder}:{os.environ['PATH']}", "NOTED": str(room.folder / "noted"), "DPKG_ROOT": "", "DEBIAN_FRONTEND": "noninteractive"}
+        command = [dpkg, f"--root={root}", "--force-depends", "--force-script-chrootless", *words]
+        done = subprocess.run(command, env=os.environ | known, capture_output=True, text=True, timeout=LONGEST, stdin=subprocess.DEVNULL)
         if done.returncode or any(path.read_bytes() != text for path, text in data.items()):
             raise Wrong(f"  dpkg {words}: {done}")
 
@@ -350,8 +383,12 @@ def settings_kept(room):
         if settings.read_text() != mine or (root / "usr/lib/systemd/system/timeweave.timer").exists() != (words[0] == "--install"):
             raise Wrong(f"  after dpkg {words} the settings are {settings.read_text()!r}")
     run("--purge", "timeweave")
-    if settings.exists() or (root / "usr/share/timeweave/night").exists():
+    if settings.exists() or (root / "usr/share/timeweave").exists():
         raise Wrong("  something of the package is left")
+    compiled, cleaned = "py3compile -p timeweave:amd64 /usr/share/timeweave", "py3clean -p timeweave:amd64"
+    wanted = [compiled, cleaned, compiled, cleaned, compiled, cleaned]
+    if [line.strip() for line in (room.folder / "noted").read_text().splitlines()] != wanted:
+        raise Wrong(f"  was run: {(room.folder / 'noted').read_text()}")
 
 
 # What stands for weft: it notes its words, and ends with the status that a file of the word's name has.
@@ -362,15 +399,16 @@ exit "$(cat "$ROOM/$1" 2> /dev/null || echo 0)"
 
 
 def night(room):
-    """a night logs, takes its turn, makes the backup and publishes, in this order; what fails is told and stops nothing else, but nothing is published without tonight's
+    """a night logs, takes its turn, has its line stamped, makes the backup and publishes, in this order; what fails is told and stops nothing else, but nothing is published without tonight's
     backup; it ends with the greatest status; what the settings leave empty isn't done"""
     room.put("weft", STAND_IN.encode())
     (room.folder / "weft").chmod(0o755)
-    whole = {"FOLDER": "/srv/da ta", "SERVICE": "/srv/log", "BOX": "/srv/box", "BACKUP": "/backup/log", "KEYS": "yes", "PUBLISH": "/srv/www"}
-    words = ["log /srv/da ta /srv/log", "exchange /srv/log /srv/box", "backup /srv/log /srv/box /backup/log --keys", "publish /srv/box /srv/www"]
+    whole = {"FOLDER": "/srv/da ta", "SERVICE": "/srv/log", "BOX": "/srv/box", "STAMP": "https://tsa.example/", "BACKUP": "/backup/log", "KEYS": "yes", "PUBLISH": "/srv/www"}
+    stamp = "stamp /srv/log --url https://tsa.example/"
+    words = ["log /srv/da ta /srv/log", "exchange /srv/log /srv/box", stamp, "backup /srv/log /srv/box /backup/log --keys", "publish /srv/box /srv/www"]
 
     def run(settings, statuses):
-        for name in ("ran", "log", "exchange", "backup", "publish"):
+        for name in ("ran", "log", "exchange", "stamp", "backup", "publish"):
             (room.folder / name).unlink(missing_ok=True)
         for name, status in statuses.items():
             room.put(name, str(status).encode())
@@ -384,11 +422,14 @@ def night(room):
         (whole, {}, 0, words, ""),
         (whole, {"log": 10, "exchange": 11}, 11, words, "weft exchange ended with 11"),
         (whole, {"backup": 10}, 10, words, "weft backup ended with 10"),
-        (whole, {"log": 17, "backup": 5}, 17, words[:3], "nothing was published"),
-        (whole, {"backup": 17}, 17, words[:3], "nothing was published"),
-        (whole | {"BACKUP": "", "KEYS": ""}, {}, 10, words[:2], "nothing was published"),
-        (whole | {"BOX": "", "KEYS": ""}, {}, 0, [words[0], "backup /srv/log /backup/log"], ""),
-        (whole | {"FOLDER": "", "PUBLISH": "", "KEYS": ""}, {}, 0, [words[1], "backup /srv/log /srv/box /backup/log"], ""),
+        (whole, {"stamp": 10}, 10, words, "weft stamp ended with 10"),
+        (whole, {"log": 17, "backup": 5}, 17, words[:4], "nothing was published"),
+        (whole, {"backup": 17}, 17, words[:4], "nothing was published"),
+        (whole | {"BACKUP": "", "KEYS": ""}, {}, 10, words[:3], "nothing was published"),
+        (whole | {"BOX": "", "KEYS": "", "STAMP": ""}, {}, 0, [words[0], "backup /srv/log /backup/log"], ""),
+        (whole | {"FOLDER": "", "PUBLISH": "", "KEYS": ""}, {}, 0, [words[1], stamp, "backup /srv/log /srv/box /backup/log"], ""),
+        (whole | {"KEYS": "no"}, {}, 0, [*words[:3], words[3].removesuffix(" --keys"), words[4]], ""),
+        (whole | {"KEYS": "false"}, {}, 2, [], "neither yes nor no"),
         (whole | {"SERVICE": ""}, {}, 2, [], "names no SERVICE"),
     ):
         found = run(settings, statuses)
@@ -426,5 +467,5 @@ def old_processors(room):
 
 def cases():
     yield from checked("installed", {"completion": completion, "manual page": manual})
-    for work in (install, install_elsewhere, same_packages, untried_crates, good_packages, stamps, source_sums, compared, units, settings_kept, night, old_processors):
+    for work in (install, install_elsewhere, same_packages, untried_crates, good_packages, clean_packages, signed_packages, stamps, source_sums, compared, units, settings_kept, night, old_processors):
         yield case(work, "installed")

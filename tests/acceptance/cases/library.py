@@ -6,17 +6,22 @@ import shutil
 import subprocess
 import sys
 from concurrent.futures import ThreadPoolExecutor
+from functools import cache
+from itertools import islice
 from pathlib import Path
 
 import timeweave
 from example_files import bounds, high_of, low_of, two_histories
 
-from cases import archives
-from harness.library import ARCHIVE, SHARED, TRIED, built_library, checked_run, chosen, wanted_version
-from harness.making import proof_bytes
+from cases import archives, data, forks, generated, maps, precedence, reaching
+from cases.contradictions import CASE_SEED
+from harness.asked_pairs import row_of_pair
+from harness.drawn_pairs import drawn_recipe, pair_of
+from harness.library import ARCHIVE, SHARED, asked_of, built_library, checked_run, chosen, judge, row_difference, row_of, wanted_version
+from harness.making import HEX, proof_bytes
 from harness.places import HARNESS, LONGEST, TOP
 from harness.rooms import Skipped, Wrong, case, needs
-from harness.running import difference
+from harness.running import made, wanted_output
 from harness.samples import anchors_of, exchange, sample_fork
 from harness.ways import as_way, with_carried
 from timeweave_reference.anchors import anchors_to_bytes
@@ -29,7 +34,23 @@ THREADS = 4
 CALLED = {"malloc", "realloc", "free", "memcpy", "memmove", "memset", "memcmp", "_GLOBAL_OFFSET_TABLE_"}
 
 
-# ---- each proof of the run
+# The modules of whose cases some are asked of the library by threads, by C, and of the page's module: at most so many of each, and so many pairs; and their largest file.
+SAMPLED, MOST_OF_ONE, PAIRS, LARGEST = (data, archives, precedence, forks, maps, reaching, generated), 1500, 500, 20_000
+
+
+# ---- what is asked beside the program
+
+
+@cache
+def sampled():
+    """What the library is asked of cases, and what it has to answer by the reference: the same rows whatever else this run tries."""
+    rows = []
+    for module in SAMPLED:
+        for one in islice((one for one in module.cases() if asked_of(one.get("words", []), {})[0]), MOST_OF_ONE):
+            contents = {name: made(recipe) for name, recipe in one.get("files", {}).items()}
+            rows.append(row_of([word.replace("$AUTH", HEX) for word in one["words"]], contents, one["status"], wanted_output(one)))
+    rows += [row_of_pair(pair) for number in range(PAIRS) if (pair := pair_of(drawn_recipe(CASE_SEED, number)))]
+    return [row for row in rows if row and max(map(len, (*row[2], row[3]))) <= LARGEST]
 
 
 # ---- in C
@@ -38,9 +59,8 @@ CALLED = {"malloc", "realloc", "free", "memcpy", "memmove", "memset", "memcmp", 
 def calls(compiler):
     def work(room):
         built_library()
-        try_some(room.program)
         command, program = needs(compiler, compiler), str(room.folder / "calls")
-        room.put("proofs", chosen())
+        room.put("proofs", chosen(sampled()))
         flags = ["-std=c11", "-O1", "-g", "-Wall", "-Wextra", "-Werror", "-fsanitize=address,undefined", "-fno-sanitize-recover=all"]
         wrapped = ["-Wl,--wrap=malloc", "-Wl,--wrap=realloc", "-pthread"]
         checked_run([command, *flags, "-I", TOP / "include", "-o", program, HARNESS / "library_calls.c", ARCHIVE, *wrapped])
@@ -53,9 +73,8 @@ def calls(compiler):
 def races(room):
     """calls from four threads at once, under clang's sanitizer of threads: no two of them touch one thing unordered"""
     built_library()
-    try_some(room.program)
     clang, program = needs("clang", "clang"), str(room.folder / "calls")
-    room.put("proofs", chosen())
+    room.put("proofs", chosen(sampled()))
     flags = ["-std=c11", "-O1", "-g", "-Wall", "-Wextra", "-Werror", "-fsanitize=thread", "-Wl,--wrap=malloc", "-Wl,--wrap=realloc", "-pthread"]
     linked = subprocess.run([clang, *flags, "-I", TOP / "include", "-o", program, HARNESS / "library_calls.c", ARCHIVE], capture_output=True, text=True)
     if "libclang_rt.tsan" in linked.stderr:
@@ -64,22 +83,20 @@ def races(room):
 
 
 def in_threads(room):
-    """four threads at once that judge all of the run's small proofs by the module for Python: each is told what one thread is"""
+    """four threads at once that judge small proofs, maps and evidence by the module for Python: each is told what one thread is"""
     built_library()
-    try_some(room.program)
-    wanted = [(status, text) for _, status, _, _, text in TRIED]
+    rows = sampled()
 
-    def judged(first):
-        # (each begins at another proof)
-        order = [*range(first, len(TRIED)), *range(first)]
-        found = {place: timeweave.library().judge(TRIED[place][2], TRIED[place][3], TRIED[place][0] == "s") for place in order}
-        return [found[place] for place in range(len(TRIED))]
+    def judge_all(first):
+        # (each begins at another row)
+        found = {place: judge(rows[place][0], rows[place][2]) for place in [*range(first, len(rows)), *range(first)]}
+        return [found[place] for place in range(len(rows))]
 
     with ThreadPoolExecutor(THREADS) as pool:
-        told = list(pool.map(judged, (len(TRIED) * number // THREADS for number in range(THREADS))))
-    wrong = [place for found in told for place, answer in enumerate(found) if answer != wanted[place]]
+        told = list(pool.map(judge_all, (len(rows) * number // THREADS for number in range(THREADS))))
+    wrong = [place for found in told for place, answer in enumerate(found) if answer != (rows[place][1], rows[place][3])]
     if wrong:
-        raise Wrong(f"  of {len(wanted)} proofs {len(wrong)} are judged otherwise in {THREADS} threads, proof {wrong[0]} first")
+        raise Wrong(f"  of {len(rows)} questions {len(wrong)} are answered otherwise in {THREADS} threads, number {wrong[0]} first")
 
 
 def no_state(room):
@@ -216,19 +233,11 @@ def copied_alone(room):
 
 
 def each_proof(room):
-    """each proof of this run, by the library"""
+    """each small proof, map and evidence of other cases, by the library"""
     built_library()
-    try_some(room.program)
-    if not TRIED:
-        raise Wrong("  no proof of this run was judged by the library")
-
-
-def try_some(program):
-    """Judges some proofs by program and library, where no other case of this run did."""
-    for one in archives.good_and_faulty() if not TRIED else ():
-        wrong = difference(program, one)
-        if wrong:
-            raise Wrong(wrong)
+    wrong = next(filter(None, map(row_difference, sampled())), None)
+    if wrong:
+        raise Wrong(wrong)
 
 
 def cases():

@@ -3,14 +3,14 @@ each step under several tops; each change and cut of both files, files that don'
 
 from example_files import bounds, high_of, low_of
 
-from harness.judged import answered, asked, grouped
+from harness.judged import answered, grouped, make_case
 from harness.samples import anchors_of, exchange
 from timeweave_reference.anchors import anchors_to_bytes
 
 
-def judged(name, low, high, anchors):
+def judge_map(name, low, high, anchors):
     """The case of these files under anchors, as the reference judges them."""
-    return asked(name, ["checkmap", "low", "high", "k"], {"low": low, "high": high, "k": anchors_to_bytes(anchors)})
+    return make_case(name, ["checkmap", "low", "high", "k"], {"low": low, "high": high, "k": anchors_to_bytes(anchors)})
 
 
 def accepted_maps():
@@ -20,7 +20,7 @@ def accepted_maps():
         for step in range(1, len(own.steps) + 1):
             for top, upto in ((len(own.steps), len(peer.steps)), (step, max(1, len(peer.steps) // 2)), (len(own.steps), 1)):
                 low, high = low_of(own, step, peer.name, top), high_of(peer, upto, own.name, step)
-                case = judged(f"{own.name} {step} under {top}, up to {upto}", low, high, anchors_of((own, top), (peer, upto)))
+                case = judge_map(f"{own.name} {step} under {top}, up to {upto}", low, high, anchors_of((own, top), (peer, upto)))
                 wanted = bounds(own, step, peer, upto)
                 text = f"accepted map\nlow {wanted[0]}\nhigh {'none' if wanted[1] is None else wanted[1]}\nupto {upto}\n"
                 yield answered(case, 0, text)
@@ -32,13 +32,13 @@ def each_change():
     low, high = low_of(own, 5, "bank", 9), high_of(peer, 10, "mill", 5)
     anchors = anchors_of((own, 9), (peer, 10))
     for place in range(len(low)):
-        yield judged(f"byte {place} of low", low[:place] + bytes([low[place] ^ 1]) + low[place + 1 :], high, anchors)
-        yield judged(f"low cut to {place}", low[:place], high, anchors)
+        yield judge_map(f"byte {place} of low", low[:place] + bytes([low[place] ^ 1]) + low[place + 1 :], high, anchors)
+        yield judge_map(f"low cut to {place}", low[:place], high, anchors)
     for place in range(len(high)):
-        yield judged(f"byte {place} of high", low, high[:place] + bytes([high[place] ^ 1]) + high[place + 1 :], anchors)
-        yield judged(f"high cut to {place}", low, high[:place], anchors)
-    yield judged("low longer", low + b"\0", high, anchors)
-    yield judged("high longer", low, high + b"\0", anchors)
+        yield judge_map(f"byte {place} of high", low, high[:place] + bytes([high[place] ^ 1]) + high[place + 1 :], anchors)
+        yield judge_map(f"high cut to {place}", low, high[:place], anchors)
+    yield judge_map("low longer", low + b"\0", high, anchors)
+    yield judge_map("high longer", low, high + b"\0", anchors)
 
 
 def files_that_do_not_fit():
@@ -47,11 +47,11 @@ def files_that_do_not_fit():
     low, high = low_of(own, 5, "bank", 9), high_of(peer, 10, "mill", 5)
     anchors = anchors_of((own, 9), (peer, 10))
     for name, other in (("another step", high_of(peer, 10, "mill", 6)), ("another service", high_of(peer, 10, "zoo", 5))):
-        yield judged(name, low, other, anchors)
-    yield judged("another peer", low_of(own, 5, "zoo", 9), high, anchors)
-    yield judged("another step, none held", low, high_of(peer, 10, "mill", 6), {})
-    yield judged("the other way", low_of(peer, 5, "mill", 9), high, anchors)
-    yield judged("changed for each other", high, low, anchors)
+        yield judge_map(name, low, other, anchors)
+    yield judge_map("another peer", low_of(own, 5, "zoo", 9), high, anchors)
+    yield judge_map("another step, none held", low, high_of(peer, 10, "mill", 6), {})
+    yield judge_map("the other way", low_of(peer, 5, "mill", 9), high, anchors)
+    yield judge_map("changed for each other", high, low, anchors)
 
 
 def other_anchors():
@@ -62,11 +62,11 @@ def other_anchors():
         low, anchors = low_of(own, step, "bank", 9), anchors_of((own, 9), (peer, 10))
         for name in anchors:
             at, auth = anchors[name]
-            yield judged(f"step {step}, none of {name}", low, high[step], {key: anchors[key] for key in anchors if key != name})
-            yield judged(f"step {step}, step before of {name}", low, high[step], {**anchors, name: (at - 1, auth)})
-            yield judged(f"step {step}, other of {name}", low, high[step], {**anchors, name: (at, bytes(32))})
-        yield judged(f"step {step}, none", low, high[step], {})
-    case = judged("a step above its top", low_of(own, 10, "bank", 9), high[10], anchors_of((own, 9), (peer, 10)))
+            yield judge_map(f"step {step}, none of {name}", low, high[step], {key: anchors[key] for key in anchors if key != name})
+            yield judge_map(f"step {step}, step before of {name}", low, high[step], {**anchors, name: (at - 1, auth)})
+            yield judge_map(f"step {step}, other of {name}", low, high[step], {**anchors, name: (at, bytes(32))})
+        yield judge_map(f"step {step}, none", low, high[step], {})
+    case = judge_map("a step above its top", low_of(own, 10, "bank", 9), high[10], anchors_of((own, 9), (peer, 10)))
     yield answered(case, 1, "rejected 2 BadOrder\n")
 
 

@@ -30,7 +30,7 @@ def line_of(history: History) -> str:
     return f"{line.name} {len(line.steps)} {line.auths[-1].hex()}\n"
 
 
-def told(room: Room, words: str, status: int, text: str) -> bytes:
+def expect_told(room: Room, words: str, status: int, text: str) -> bytes:
     """The program ends with this status, and its output begins with this text; answers the output."""
     found = room.run(*words.split())
     if found[0] != status or not found[1].startswith(text.encode()):
@@ -45,9 +45,9 @@ def refused_after(room: Room, forged: bytes, true: bytes, refusal: str) -> None:
     for folder in ("seen", "shop", "again"):
         (room.folder / folder).mkdir()
     for words in ("watch seen bank", "init shop shop", "watch again bank", "offer seen forged", "receive shop forged", "offer again true"):
-        told(room, words, 0, "")
-    told(room, "offer seen true", 7, refusal)
-    told(room, "receive shop true", 7, refusal)
+        expect_told(room, words, 0, "")
+    expect_told(room, "offer seen true", 7, refusal)
+    expect_told(room, "receive shop true", 7, refusal)
 
 
 def made_up_message(room: Room) -> None:
@@ -56,13 +56,13 @@ def made_up_message(room: Room) -> None:
     kept = false.auths[1].hex()
     refused_after(room, message_bytes(false, 1, 0), message_bytes(true, 2, 0), f"refused BadLink 1 {kept}\n")
     room.put("true", message_bytes(true, 2, 1))
-    told(room, "offer seen true", 7, f"refused BadLink 1 {kept}\n")
-    told(room, "receive shop true", 7, f"refused BadLink 1 {kept}\n")
+    expect_told(room, "offer seen true", 7, f"refused BadLink 1 {kept}\n")
+    expect_told(room, "receive shop true", 7, f"refused BadLink 1 {kept}\n")
     # The service's link tells its own authenticator of step 1, which isn't the one that is kept.
     room.put("link", link_proof(true, 1, 2))
-    told(room, f"verify link bank 2 {true.auths[2].hex()}", 0, f"accepted link\nlink bank 1 2 {true.auths[1].hex()}\n")
+    expect_told(room, f"verify link bank 2 {true.auths[2].hex()}", 0, f"accepted link\nlink bank 1 2 {true.auths[1].hex()}\n")
     room.put("renamed", message_bytes(Timeline("bank-2", [[b"a"]]), 1, 0))
-    told(room, "receive shop renamed", 0, "TWR1")
+    expect_told(room, "receive shop renamed", 0, "TWR1")
 
 
 def made_up_far_step(room: Room) -> None:
@@ -109,33 +109,13 @@ def another_old_head(room: Room) -> None:
     room.put("second", message_bytes(true, 2, 1))
     room.put("message", message_bytes(false, 1, 0))
     for words in ("watch seen bank", "init shop shop", "offer seen first", "offer seen second", "receive shop first", "receive shop second"):
-        told(room, words, 0, "")
-    told(room, "offer seen message", 7, "refused Stale 2\n")
-    told(room, "receive shop message", 7, f"refused Forked 1 {true.auths[1].hex()} {false.auths[1].hex()}\n")
-    told(room, "heads seen", 0, f"bank 1 {true.auths[1].hex()}\n")
+        expect_told(room, words, 0, "")
+    expect_told(room, "offer seen message", 7, "refused Stale 2\n")
+    expect_told(room, "receive shop message", 7, f"refused Forked 1 {true.auths[1].hex()} {false.auths[1].hex()}\n")
+    expect_told(room, "heads seen", 0, f"bank 1 {true.auths[1].hex()}\n")
     found = shell(room, "weft tell message")
     if f"line: bank 1 {false.auths[1].hex()}\n" not in found:
         raise Wrong(f"  weft tell message\n  got    {found!r}")
-
-
-def picked_lines(room: Room) -> None:
-    """of the file of all lines those of a chain's tops are picked, doubled ones once; of two different lines of one step the step is named, and verify takes none"""
-    linked(room)
-    shop, bank = (Timeline(name, [[name.encode()]] * 12) for name in ("shop", "bank"))
-    lines = [f"{line.name} {step} {line.auths[step].hex()}\n" for line in (shop, bank) for step in (7, 12)]
-    room.put("kept", "".join([*lines, lines[1], lines[2]]).encode())
-    twice = "sort -u kept | cut -d ' ' -f 1,2 | sort | uniq -d"
-    pick = "grep -e '^shop 12 ' -e '^bank 7 ' kept | sort -u > new && mv new anchors"
-    expect_shell(room, twice, "0 ")
-    expect_shell(room, pick, "0 ")
-    if (room.folder / "anchors").read_text() != lines[2] + lines[1]:
-        raise Wrong(f"  {pick}\n  got    {(room.folder / 'anchors').read_text()!r}")
-    room.put("proof", proof_bytes(shop, 3, 0, 12))
-    told(room, "verify proof anchors", 0, "accepted exists\n")
-    room.put("kept", "".join([*lines, f"shop 12 {bank.auths[12].hex()}\n"]).encode())
-    expect_shell(room, twice, "shop 12\n0 ")
-    expect_shell(room, pick, "0 ")
-    told(room, "verify proof anchors", 9, "unreadable anchors line 3\n")
 
 
 # What stands for the programs of a machine on which systemd runs: of `systemctl start` the night is made.
@@ -181,10 +161,10 @@ def looked_at(room: Room) -> None:
     linked(room)
     command = "timeweave export /srv/shop > new && mv new shop.history && wc -c < shop.history"
     (room.folder / "store").mkdir()
-    told(room, "init store shop", 0, "shop 0 ")
+    expect_told(room, "init store shop", 0, "shop 0 ")
     room.put("e", events_to_bytes([b"x"]))
-    told(room, "append store e", 0, "shop 1 ")
-    history = told(room, "export store", 0, "TWH1")
+    expect_told(room, "append store e", 0, "shop 1 ")
+    history = expect_told(room, "export store", 0, "TWH1")
     expect_shell(room, command, f"{len(history)}\n0 ", **{"/srv/shop": "store"})
     expect_shell(room, command, "5 ", **{"/srv/shop": "nowhere"})
     if (room.folder / "shop.history").read_bytes() != history or (room.folder / "new").read_text() != "fault disk\n":
@@ -195,24 +175,24 @@ def fooled_receiver(room: Room) -> None:
     """a service that took a made-up message receives the true peer by another service of its own, and a chain goes over one hop more"""
     for name in ("shop", "shop-b", "bank"):
         (room.folder / name).mkdir()
-        told(room, f"init {name} {name}", 0, f"{name} 0 ")
+        expect_told(room, f"init {name} {name}", 0, f"{name} 0 ")
     room.put("e", events_to_bytes([b"x"]))
     room.put("m", message_bytes(Timeline("bank", [[b"made up"]]), 1, 0))
     for words in ("receive shop m", "append bank e", "append bank e"):
-        told(room, words, 0, "")
-    room.put("m", told(room, "thread bank 0", 0, "TWT1"))
-    told(room, "receive shop m", 7, "refused BadLink 1 ")
-    told(room, "receive shop-b m", 0, "TWR1")
-    room.put("m", told(room, "thread shop-b 0", 0, "TWT1"))
-    told(room, "receive shop m", 0, "TWR1")
-    room.put("lines", b"".join(told(room, f"append {name} e", 0, f"{name} ") for name in ("shop", "shop-b", "bank")))
+        expect_told(room, words, 0, "")
+    room.put("m", expect_told(room, "thread bank 0", 0, "TWT1"))
+    expect_told(room, "receive shop m", 7, "refused BadLink 1 ")
+    expect_told(room, "receive shop-b m", 0, "TWR1")
+    room.put("m", expect_told(room, "thread shop-b 0", 0, "TWT1"))
+    expect_told(room, "receive shop m", 0, "TWR1")
+    room.put("lines", b"".join(expect_told(room, f"append {name} e", 0, f"{name} ") for name in ("shop", "shop-b", "bank")))
     for name, words in {
         "second": "shop event 3 0", "over": "shop thread 2 shop-b 1", "bind": "shop-b link 1", "hop": "shop-b thread 1 bank 2",
         "link": "bank link 2", "first": "bank event 1 0 2",
     }.items():
-        room.put(name, told(room, f"prove {words}", 0, "TWP1"))
-    room.put("chain", told(room, "join second over bind hop link first", 0, "TWP1"))
-    told(room, "strict chain lines", 0, "accepted precedes\n")
+        room.put(name, expect_told(room, f"prove {words}", 0, "TWP1"))
+    room.put("chain", expect_told(room, "join second over bind hop link first", 0, "TWP1"))
+    expect_told(room, "strict chain lines", 0, "accepted precedes\n")
 
 
 def one_accuser(room: Room) -> None:
@@ -224,13 +204,13 @@ def one_accuser(room: Room) -> None:
     for name, entry in zip(("first", "second"), listed(tree)):
         room.put(name, thread_proof(eve.line(), tree, 2, 2, entry))
     room.put("link", link_proof(second, 1, 2))
-    room.put("evidence", told(room, "accuse first second link", 0, ""))
+    room.put("evidence", expect_told(room, "accuse first second link", 0, ""))
     room.put("lines", line_of(eve).encode())
     texts = [f"{which} bank {step} {line.auths[step].hex()} eve {step}\n" for which, step, line in (("first", 1, first), ("second", 2, second))]
-    told(room, "checkfork evidence lines", 0, f"accepted fork\n{''.join(texts)}")
+    expect_told(room, "checkfork evidence lines", 0, f"accepted fork\n{''.join(texts)}")
     # Its history is sound: an audit of the thread's proof stands.
     room.put("history", eve.to_bytes())
-    told(room, "audit second lines history", 0, "stands\n")
+    expect_told(room, "audit second lines history", 0, "stands\n")
 
 
 def one_receiver(room: Room) -> None:
@@ -238,14 +218,14 @@ def one_receiver(room: Room) -> None:
     linked(room)
     for folder, name in (("false", "bank"), ("eve", "eve")):
         (room.folder / folder).mkdir()
-        told(room, f"init {folder} {name}", 0, f"{name} 0 ")
+        expect_told(room, f"init {folder} {name}", 0, f"{name} 0 ")
     room.put("e", events_to_bytes([b"made up"]))
-    found = told(room, "append false e", 0, "bank 1 ").decode().split()[2]
-    room.put("m", told(room, "thread false 0", 0, ""))
-    told(room, "receive eve m", 0, "TWR1")
-    room.put("lines", told(room, "append eve e", 0, "eve 2 "))
-    room.put("proof", told(room, "prove eve thread 1 bank 1", 0, "TWP1"))
-    room.put("history", told(room, "export false", 0, "TWH1"))
+    found = expect_told(room, "append false e", 0, "bank 1 ").decode().split()[2]
+    room.put("m", expect_told(room, "thread false 0", 0, ""))
+    expect_told(room, "receive eve m", 0, "TWR1")
+    room.put("lines", expect_told(room, "append eve e", 0, "eve 2 "))
+    room.put("proof", expect_told(room, "prove eve thread 1 bank 1", 0, "TWP1"))
+    room.put("history", expect_told(room, "export false", 0, "TWH1"))
     history = (room.folder / "history").read_bytes()
     room.expect("adopt history lines proof", 0, history)
     # Beside it the proof of an honest receiver, of the true history, is the one that is told, in each order; and each is tried alone.
@@ -254,8 +234,8 @@ def one_receiver(room: Room) -> None:
     room.put("honest", thread_proof(honest.line(), honest.trees[1], 1, 1, listed(honest.trees[1])[0]))
     room.put("lines", (room.folder / "lines").read_bytes() + line_of(honest).encode())
     differs = f"1 {true.auths[1].hex()} {found}\n"
-    told(room, "adopt history lines honest proof", 1, f"rejected 14 Differs 1 {differs}")
-    told(room, "adopt history lines proof honest", 1, f"rejected 14 Differs 2 {differs}")
+    expect_told(room, "adopt history lines honest proof", 1, f"rejected 14 Differs 1 {differs}")
+    expect_told(room, "adopt history lines proof honest", 1, f"rejected 14 Differs 2 {differs}")
     alone = "for proof in first second third; do timeweave adopt lost.history lines $proof > kept.$proof && wc -c kept.$proof || cat kept.$proof; done"
     expect_shell(
         room, alone, f"{len(history)} kept.proof\nrejected 14 Differs 1 {differs}0 ", **{"first second third": "proof honest", "lost.history": "history"},
@@ -330,25 +310,6 @@ def woven_by_cron(room: Room) -> None:
         raise Wrong(f"  no chain: {typed}")
 
 
-def stamped(room: Room) -> None:
-    """a list's time stamp is asked for and verified by the document's commands, and not that of another list"""
-    openssl = needs("openssl", "openssl")
-    settings = "[tsa]\nserial=serial\ndefault_policy=1.2.3.4\ndigests=sha256,sha512\nsigner_digest=sha512\ness_cert_id_alg=sha256\n"
-    room.put("settings", settings.encode())
-    room.put("serial", b"01\n")
-    room.put("digests", b"aa  history\n")
-    make = [openssl, "req", "-x509", "-newkey", "rsa:2048", "-nodes", "-keyout", "key", "-out", "authority.pem", "-days", "9", "-subj", "/CN=TSA"]
-    reply = [openssl, "ts", "-reply", "-queryfile", "query", "-inkey", "key", "-signer", "authority.pem", "-config", "settings", "-section", "tsa", "-out", "stamp"]
-    subprocess.run([*make, "-addext", "extendedKeyUsage=critical,timeStamping"], cwd=room.folder, check=True, capture_output=True, timeout=LONGEST)
-    shell(room, "openssl ts -query -data digests -sha512 -cert -out query")
-    subprocess.run(reply, cwd=room.folder, check=True, capture_output=True, timeout=LONGEST)
-    for line, status in ((b"aa  history\n", "0"), (b"ab  history\n", "1")):
-        room.put("digests", line)
-        found = shell(room, "openssl ts -verify -data digests -in stamp -CAfile authority.pem")
-        if ("Verification: OK" in found, found.partition("\n")[2][:1]) != (status == "0", status):
-            raise Wrong(f"  {line!r}\n  got    {found!r}")
-
-
 def judge(room: Room, *words: str) -> "subprocess.CompletedProcess[bytes]":
     """What `judge` of the reference answers of these words, in the room's folder."""
     command = [sys.executable, "-I", TOP / "reference/timeweave_reference", "judge", *words]
@@ -379,7 +340,7 @@ def judged_beside(room: Room) -> None:
 
 def cases() -> List[dict]:
     works = (
-        made_up_message, made_up_far_step, another_old_head, picked_lines, main_path, looked_at, fooled_receiver, one_accuser, one_receiver,
-        thread_left_out, goes_on, woven_by_cron, stamped, usage_of_judge, judged_beside,
+        made_up_message, made_up_far_step, another_old_head, main_path, looked_at, fooled_receiver, one_accuser, one_receiver,
+        thread_left_out, goes_on, woven_by_cron, usage_of_judge, judged_beside,
     )
     return [case(work, "operated") for work in works]

@@ -1,6 +1,6 @@
 """Cases of scripts and of networks that are generated, as the reference plays them."""
 
-from harness.judged import answered, asked, grouped
+from harness.judged import answered, grouped, make_case
 from harness.played import script_by_chance
 from timeweave_reference.scripts import MOST_BYTES as MOST_SCRIPT
 from timeweave_reference.worlds import generated
@@ -63,15 +63,15 @@ def crashed():
             line = BEFORE if call < 7 else BEHIND if call > 8 else AMID[choice % 2]
             steps = line[-1]
             text = f"1 ok\n2 step 1\n3 ok\n4 {line}\n" + summary(steps)
-            yield told(f"call {call}, choice {choice}", CRASHED.format(call=call, choice=choice), text)
+            yield play_script(f"call {call}, choice {choice}", CRASHED.format(call=call, choice=choice), text)
     longer = CRASHED.format(call=5, choice=3) + "append alpha 63\n"
     text = f"1 ok\n2 step 1\n3 ok\n4 {BEFORE}\n5 step 2\n" + summary(2)
-    yield told("call 5, choice 3, and a next append", longer, text)
+    yield play_script("call 5, choice 3, and a next append", longer, text)
 
 
-def told(name, script, text):
+def play_script(name, script, text):
     """The case of a script, which has to print this."""
-    return answered(asked(name, ["replay", "s"], {"s": script.encode()}), 0, text)
+    return answered(make_case(name, ["replay", "s"], {"s": script.encode()}), 0, text)
 
 
 def summary(steps):
@@ -109,7 +109,7 @@ def scripts():
 
 def cases():
     for name, data in scripts():
-        yield asked(f"played: {name}", ["replay", "s"], {"s": data})
+        yield make_case(f"played: {name}", ["replay", "s"], {"s": data})
     for number in (0, 7, 2**64 - 1):
         for rounds in (1, 2, 49, 50, 51, 99, 100, 149):
             yield {"name": f"played: {rounds} rounds by {number}", "words": ["generate", str(number), str(rounds)], "status": 0, "stdout": generated(rounds)}

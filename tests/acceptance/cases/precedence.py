@@ -10,7 +10,7 @@ from itertools import combinations
 
 from example_files import least_way
 
-from harness.judged import answered, asked, gives, grouped, is_accepted, judged_under
+from harness.judged import answered, gives, grouped, is_accepted, judged_under, make_case
 from harness.large import LONG, SHORT, deep_way
 from harness.making import absent_proof, link_bytes, link_proof, path_bytes
 from harness.places import HARNESS, LONGEST
@@ -296,7 +296,7 @@ def large_archives():
 def joining(name, parts):
     """The case of parts that are joined, as the reference joins them."""
     names = [f"part{number}" for number in range(1, len(parts) + 1)]
-    return asked(name, ["join", *names], dict(zip(names, parts)))
+    return make_case(name, ["join", *names], dict(zip(names, parts)))
 
 
 def good_parts():

@@ -7,8 +7,8 @@ import random
 
 from example_files import CHAIN, Fork, high_of, least_way, low_of, receipts_of, taken_over
 
-from cases.maps import judged
-from harness.judged import asked
+from cases.maps import judge_map
+from harness.judged import make_case
 from harness.samples import anchors_of, exchange, fork_parts, sample_fork
 from harness.ways import as_way
 from timeweave_reference.anchors import anchors_to_bytes
@@ -49,7 +49,7 @@ def changed_parts():
             changed[place] ^= rand.choice((1, 2, 128, 255))
             given = [*parts[:number], bytes(changed), *parts[number + 1 :]]
             words = ["accuse", "first", "second", "link"]
-            yield asked(f"accuse: byte {place} of part {number + 1} changed", words, dict(zip(words[1:], given)))
+            yield make_case(f"accuse: byte {place} of part {number + 1} changed", words, dict(zip(words[1:], given)))
 
 
 def receipt_files():
@@ -93,7 +93,7 @@ def mapped_files():
     """Of `checkmap` the low file first, then the high one, then the lines of the anchors; and then whether both fit."""
     own, peer = exchange()
     words, bad = ["checkmap", "low", "high", "k"], {"low": b"no", "high": b"no", "k": b"mill 1\n"}
-    files = judged("files", low_of(own, 5, "bank", 9), high_of(peer, 10, "mill", 5), anchors_of((own, 9), (peer, 10)))["files"]
+    files = judge_map("files", low_of(own, 5, "bank", 9), high_of(peer, 10, "mill", 5), anchors_of((own, 9), (peer, 10)))["files"]
     yield from missing("checkmap", words, files, bad)
     apart = {"high": high_of(peer, 10, "mill", 6), "k": bad["k"]}
     for name, wrong, told in (

@@ -8,6 +8,7 @@ import re
 import subprocess
 import sys
 
+import timeweave
 import timeweave_reference
 from example_files import audited_chain, between_steps, fork_evidence, reached_steps, taken_over
 
@@ -16,7 +17,7 @@ from harness.places import LONGEST, TOP
 from harness.rooms import Wrong, case, needs
 from harness.samples import timed, woven
 from harness.ways import ways, with_carried
-from timeweave_reference import anchors, commands, events_files, evidence, histories, map_files, messages, receipts, reports, stores, tree_pages
+from timeweave_reference import anchors, commands, events_files, evidence, histories, map_files, messages, receipts, stores, tree_pages
 from timeweave_reference.fields import Malformed
 from timeweave_reference.followers import Follower
 from timeweave_reference.services import Service
@@ -172,7 +173,7 @@ def readers(room):
 
 
 def over_bytes(room):
-    """the functions over bytes answer as the commands do, and their texts are read back"""
+    """the functions over bytes answer as the commands do, and the module for Python reads their texts"""
     chain, lost, maps, fork = audited_chain(), taken_over(), between_steps(), fork_evidence()
     parts = [read_proof(fork[name]) for name in ("first", "second", "link")]
     found = [
@@ -190,9 +191,11 @@ def over_bytes(room):
         wrong.append("show")
     if wrong:
         raise Wrong(f"  {wrong}")
-    for answer in found:
-        if len(reports.read_report(answer.text)) != len(answer.text.splitlines()):
-            raise Wrong(f"  the report {answer.text!r} isn't read")
+    *judged, audited = (answer.text.decode() for answer in found)
+    for call, text in zip(("verify", "strict", "checkmap", "checkfork"), judged):
+        timeweave.read_answer(f"timeweave_{call}", 0, text)
+    if len(timeweave.read_report(audited.replace("stands\n", "accepted precedes\n", 1)).hops) != audited.count("\nhop "):
+        raise Wrong(f"  the report {audited!r} isn't read")
 
 
 def long_inputs(room):

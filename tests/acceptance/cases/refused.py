@@ -10,7 +10,7 @@ from pathlib import Path
 from harness.drawn import KINDS, a_session
 from harness.places import HARNESS, LONGEST
 from harness.rooms import Wrong, case, needs
-from harness.trials import Answer, Difference, ran, told, wanted
+from harness.trials import Answer, Difference, describe_trial, ran, wanted
 
 # The most allocations of a run that are refused, evenly among all.
 MOST = 40
@@ -34,11 +34,11 @@ def refused_memory(kind, room):
         found, count = with_refused(room, trial, shim, 0)
         calls = range(1, count + 1, 1 + count // MOST) if said.allows(found) else ()
         if not calls:
-            raise Wrong(told(trial, Difference(1, said, found)))
+            raise Wrong(describe_trial(trial, Difference(1, said, found)))
         for call in calls:
             found, _ = with_refused(room, trial, shim, call)
             if found != without and not said.allows(found):
-                raise Wrong(f"{told(trial, Difference(1, said, found))}\n  where allocation {call} of {count} was refused")
+                raise Wrong(f"{describe_trial(trial, Difference(1, said, found))}\n  where allocation {call} of {count} was refused")
 
 
 def cases():

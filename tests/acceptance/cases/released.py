@@ -17,6 +17,7 @@ import body_trials
 import judge_release
 import proved_by
 
+from harness import packing
 from harness.places import LONGEST, TOP
 from harness.rooms import Skipped, Wrong, case, needs
 from timeweave_reference.events_files import events_to_bytes
@@ -56,44 +57,36 @@ def tried_text():
     return body_trials.text_of({name: body_trials.Trial(digest, "2026-01-01", "0" * 40, 1) for name, digest in wanted.items()}).encode()
 
 
-def is_built(program):
-    """Whether the program that cases are run by is a built one, and not the second implementation."""
-    return Path(program).read_bytes()[:4] == b"\x7fELF"
-
-
-def packed(into, room, is_trial):
-    """Writes the packages into a folder; for what isn't built a program of the system stands in."""
-    import package
-    import release
-
-    into.mkdir()
-    room.put("page", b"<html></html>")
-    built = {part: Path("/bin/true") for part in package.PARTS} | {package.PAGE: room.folder / "page"}
-    built |= {"bin/timeweave": Path(room.program)} if is_built(room.program) else {}
-    package.write(into, built, version=release.label_of(is_trial))
-
-
 def made(room, name, log=None):
     """Writes a release of the last commit, signed and recorded, or where a gate's log is named a trial; answers its folder."""
-    for program, package in (("rt", "the kit"), ("dpkg-shlibdeps", "dpkg-dev"), ("ssh-keygen", "openssh-client"), ("git", "git")):
-        needs(program, package)
+    packing.can_pack()
+    needs("ssh-keygen", "openssh-client")
     if subprocess.run(["git", "status", "--porcelain"], cwd=TOP, check=True, capture_output=True).stdout:
         raise Skipped("files differ from the commit, or this is none")
     import release
 
-    into, kept, plain = room.folder / name, room.folder / f"{name}-kept", release.source_archive
-    packed(into, room, is_trial=log is not None)
+    into, kept = room.folder / name, room.folder / f"{name}-kept"
+    plain, lay_out = release.source_archive, release.lay_out
+
+    def lay_out_as_tried(tree, version):
+        """The sources, in which all wrong bodies were tried."""
+        lay_out(tree, version)
+        (tree / judge_release.TRIED).write_bytes(tried_text())
+
+    into.mkdir()
+    with mock.patch.object(release, "lay_out", lay_out_as_tried):
+        release.write(into, packing.stand_ins(room.program), version=release.label_of(log is not None))
     with mock.patch.object(release, "source_archive", lambda *label: as_tried(plain(*label))):
         release.add_parts(into, log or good_log(tree()), is_trial=log is not None)
     subprocess.run(["ssh-keygen", "-q", "-t", "ed25519", "-N", "", "-f", room.folder / f"{name}-key"], check=True)
     (room.folder / "signers").write_text(f"timeweave {(room.folder / f'{name}-key.pub').read_text()}")
     release.sign(into, room.folder / f"{name}-key")
     kept.mkdir()
-    release.record(into, kept, room.program, *["--unproved"] * (not is_built(room.program)))
+    release.record(into, kept, room.program, *["--unproved"] * (not packing.is_program(room.program)))
     return into
 
 
-def judged(folder, signers, to_first=True):
+def judge_folder(folder, signers, to_first=True):
     """What the judge says of a folder."""
     with tempfile.TemporaryDirectory() as place:
         release = judge_release.Release(folder, argparse.Namespace(signers=signers, line=None), Path(place))
@@ -168,6 +161,13 @@ def in_deb(pattern, part, path, more=(), change=commented):
         package.write_bytes(made)
 
     return plant
+
+
+def in_source_package(folder):
+    """The fault that the source package has another file than the sources."""
+    archive = next(folder.glob("timeweave_*.tar.xz"))
+    tar = judge_release.lzma.decompress(archive.read_bytes())
+    archive.write_bytes(judge_release.lzma.compress(repacked(tar, lambda name, text: commented(text) if name.endswith("/debian/rules") else text), preset=0))
 
 
 def with_two_data(folder):
@@ -259,7 +259,10 @@ CAREFUL = (
     ("a package of another version", "packages", in_control(b"Version: 1.0.0", b"Version: 1.0.1")),
     ("a field more of a package", "packages", in_control(b"Section: ", b"Essential: yes\nSection: ")),
     ("another digest in a package", "packages", in_deb("python3-*.deb", "control.tar.xz", "md5sums", change=lambda text: b"0" + text[1:])),
-    ("a script of a package", "packages", in_deb("timeweave_*.deb", "control.tar.xz", None, [("./postinst", b"#!/bin/sh\n")])),
+    ("a file of the source package", "packages", in_source_package),
+    ("a script of a package that does more", "packages", in_deb("timeweave_*.deb", "control.tar.xz", "postinst", change=lambda text: text + b"weft log / log\n")),
+    ("what is run when Python is upgraded", "packages", in_deb("timeweave_*.deb", "data.tar.xz", "timeweave.rtupdate", change=lambda text: text + b"weft log / log\n")),
+    ("a script of a package", "packages", in_deb("timeweave_*.deb", "control.tar.xz", None, [("./postrm", b"#!/bin/sh\n")])),
     ("a file more in the tar file", "packages", in_tar("*-linux.tar.gz", None, more=[("bin/more", b"more")])),
     ("a file that lies outside", "packages", in_tar("*-linux.tar.gz", None, more=[("../../more", b"more")])),
     ("the program", "packages", in_tar("*-linux.tar.gz", "/bin/timeweave", lambda text: text[:-1] + bytes([text[-1] ^ 1]))),
@@ -332,7 +335,7 @@ def hold_found(good, room, faults):
     folder, wrong = room.folder / "planted", []
     for fault, is_careful in faults:
         planted(good, folder, fault, is_careful)
-        said = judged(folder, None if is_careful else room.folder / "signers")
+        said = judge_folder(folder, None if is_careful else room.folder / "signers")
         wrong += [f"  {fault[0]}: {said[-1]}"] * (not found_by(fault, said))
     if wrong or not faults:
         raise Wrong("\n".join(wrong))
@@ -341,7 +344,7 @@ def hold_found(good, room, faults):
 def judged_by_faults(room):
     """a release is found good, and each of the planted faults is found by the part of the judgement that looks for it"""
     good = made(room, "release")
-    said = judged(good, room.folder / "signers", to_first=False)
+    said = judge_folder(good, room.folder / "signers", to_first=False)
     heads = [line.partition(":")[0] for line in said]
     if "BAD" in heads or heads.count("good") < 8 or "not checked" not in heads:
         raise Wrong("\n".join(said))

@@ -4,6 +4,7 @@ import json
 import re
 import subprocess
 import sys
+import time
 from collections import Counter
 from xml.etree import ElementTree
 
@@ -238,26 +239,30 @@ def old_copy(room):
 
 
 def ten_years(room):
-    """a box for ten years is opened in an empty folder by what stands in it alone, and what was changed in it is told"""
+    """a box for ten years is opened in an empty folder by what stands in it alone, and what was changed in it is told; its lines have days by a stamp that was renewed before its
+    certificate ended"""
     needs("ssh-keygen", "openssh-client")
+    needs("openssl", "openssl")
     linked(room)
     box = room.folder / "opened"
     box.mkdir()
     status, output = script(room, "ten_years.sh", room.program, str(box))
     told = output.partition("$ mkdir later")[2]
     good = ("accepted precedes", "./deed: OK", 'Good "timeweave-line" signature for keeper', "deed: OK", "chain: OK", "lines: OK", "register.history: OK")
-    if status or any(text not in told for text in good) or "(status" in told:
+    stamped = told.count("Verification: OK") == 4 and len(re.findall("^Time stamp: ", told, re.M)) == 2 and "of register was recorded not after" in output
+    if status or any(text not in told for text in good) or "(status" in told or not stamped:
         raise Wrong(f"  ten_years.sh\n  got    {status} {output}")
     commands = re.findall(r"^    \$ (.*)$", (box / "README.txt").read_text(), re.M)
 
     def opened(number):
-        words = ["env", "-i", "PATH=/usr/local/bin:/usr/bin:/bin", "sh", "-c", commands[number]]
+        words = ["env", "-i", "PATH=/usr/local/bin:/usr/bin:/bin", f"NOW={int(time.time()) + 10 * 31_536_000}", "sh", "-c", commands[number]]
         done = subprocess.run(words, cwd=box, capture_output=True, text=True, timeout=LONGEST)
         return done.stdout + done.stderr
 
     changes = (
         ("chain", 0, b"\x00\x00", b"\x00\x01", "rejected "), ("deed", 1, b"Ann", b"Bob", "FAILED"), ("register.line", 2, b"register 1 ", b"register 2 ", "Could not verify"),
-        ("register.history", 3, b"deed", b"need", "register.history: FAILED"),
+        ("register.history", 3, b"deed", b"need", "register.history: FAILED"), ("register.line", 5, b"register 1 ", b"register 2 ", "message imprint mismatch"),
+        ("notary.stamp.1", 4, b"first", b"third", "message imprint mismatch"), ("notary.stamp.2", 4, b"second", b"thirds", "Verification: FAILED"),
     )  # fmt: skip
     for name, number, old, new, text in changes:
         data = (box / name).read_bytes()
@@ -266,6 +271,9 @@ def ten_years(room):
         if text not in opened(number):
             raise Wrong(f"  {name} was changed\n  got    {opened(number)}")
         (box / name).write_bytes(data)
+    commands.append(re.sub(r"-attime .*\)", "-attime $NOW", commands[5]))
+    if "certificate has expired" not in opened(-1):
+        raise Wrong(f"  the first stamp alone counts ten years later: {opened(-1)}")
 
 
 def cases():

@@ -8,7 +8,7 @@ from functools import partial
 
 from harness.making import LEAST, message_bytes
 from harness.rooms import Wrong, case
-from harness.trials import difference, one, told
+from harness.trials import describe_trial, difference, one
 from timeweave_reference.events_files import events_to_bytes
 from timeweave_reference.services import service_of
 from timeweave_reference.timelines import Timeline
@@ -51,7 +51,7 @@ def tried(room, trial):
     """Runs the trial, which has to answer as the reference says."""
     differs = difference(room.program, trial)
     if differs:
-        raise Wrong(told(trial, differs))
+        raise Wrong(describe_trial(trial, differs))
 
 
 def changes(data, values=ENDS):

@@ -6,11 +6,12 @@ import os
 import random
 import re
 import subprocess
+import time
 from pathlib import Path
 
-from cases.documents import is_shown, shown
 from harness.places import LONGEST, TOP
 from harness.rooms import Skipped, Wrong, case, needs
+from texts.cases.documents import is_shown, read_examples
 from timeweave_reference.__main__ import answered
 from timeweave_reference.events_files import events_to_bytes
 from timeweave_reference.followers import Follower
@@ -21,8 +22,10 @@ STARTER = TOP / "reference/bin/timeweave-unproved"
 MARK = "NOT PROVED: second implementation"
 
 # An environment in which there are Python 3 and sh, and the kit isn't; the seconds of a processor that the first look may take, and how often it is tried
-# for them: on a machine with other work the same instructions take several times as long.
+# for them. On a machine with other work the same instructions take several times as long: so much longer as a loop of so many steps takes then than the
+# seconds of a processor that it takes by itself.
 BARE, MOST_SECONDS, TRIES = "/usr/bin:/bin", 10, 3
+LOOP, LOOP_SECONDS = 10**7, 0.4
 
 # What README tells to type for it.
 LOOK = ["python3", "tools/look.py"]
@@ -47,12 +50,20 @@ def looked(room):
     return output, used.ru_utime + used.ru_stime
 
 
+def slowed():
+    """How many times longer than by itself this processor takes now for a loop, and once at least."""
+    begun = time.process_time()
+    for _ in range(LOOP):
+        pass
+    return max(1.0, (time.process_time() - begun) / LOOP_SECONDS)
+
+
 def wanted_of_look():
     """The README's examples as the second implementation answers them: each command with what it prints."""
     import look
 
     commands = set(look.examples())
-    for command, output in shown((TOP / "README.md").read_text().split("\n## Five minutes\n")[1]):
+    for command, output in read_examples((TOP / "README.md").read_text().split("\n## Five minutes\n")[1]):
         if command in commands:
             yield look.unproved(command), output.replace("judged by: proved ..", "judged by: Python reference, tested, not proved")
 
@@ -78,9 +89,10 @@ def look_shows(room):
         raise Wrong(f"  README doesn't name {' '.join(LOOK)}")
     taken = []
     while len(taken) < TRIES and (not taken or min(taken) > MOST_SECONDS):
+        before = slowed()
         output, seconds = looked(room)
         hold_look(output)
-        taken.append(seconds)
+        taken.append(seconds / max(before, slowed()))
     if not list(room.folder.glob("timeweave-way-*.svg")):
         raise Wrong("  no picture is left")
     if min(taken) > MOST_SECONDS:

@@ -62,7 +62,7 @@ def in_schema(room):
         raise Wrong("\n".join(wrong))
 
 
-def told(program):
+def compare_readme(program):
     """The files that vectors/README.md doesn't name or that aren't there, reasons and rules that no vector has, and few or large vectors."""
     named = set(re.findall(r"`(\w+)\.json`", (FOLDER / "README.md").read_text()))
     wrong = [f"  vectors/README.md and the folder differ in {name}" for name in sorted(named ^ set(files()))]
@@ -165,7 +165,7 @@ def without_program():
     """The cases that need no built program."""
     checks = {
         "as they are made": as_made,
-        "what they have": told,
+        "what they have": compare_readme,
         "the grammar of texts": in_grammar,
         "greedy paths": paths,
     }

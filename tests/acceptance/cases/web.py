@@ -1,27 +1,26 @@
-"""The module of WebAssembly answers as the library does, and the page says what they say. Each proof, map and evidence that a case of this run has the program judge is
+"""The module of WebAssembly answers as the library does, and the page says what they say. Each proof, map and evidence that a case has the program judge is
 judged by the module too, in one process of Node; behind that, changed ones, by the library and by the module. Then the module for JavaScript and the page's own parts by
 Node's test runner, the page in Chromium and in Firefox, as a user meets it, and whether it is put together of the sources that lie here.
-Where `node`, `wasm-opt` or a browser is missing, or the page isn't built, that is told as skipped."""
+Where `node` or a browser is missing, or the page isn't built, that is told as skipped."""
 
 import json
-import os
 import random
+import shutil
 import subprocess
 import sys
 import tempfile
-from itertools import islice
+from unittest import mock
 
 import timeweave
 from example_files import high_of, low_of
 
-from cases import forks, maps
-from cases.library import try_some
-from harness import library
+from cases.library import sampled
+from harness.library import judge
+from harness.places import LONGEST, TOP
 from harness.rooms import Skipped, Wrong, case, needs
-from harness.running import difference
 from harness.samples import exchange
 from harness.weft_room import Loom
-from harness.web import ASKED, FUNCTIONS, MODULE, PAGE, WEB, asked, built, has
+from harness.web import FUNCTIONS, MODULE, PAGE, WEB, built, has, start_node
 from timeweave_reference.histories import existence_proof
 from timeweave_reference.paths import climbed
 from timeweave_reference.proofs import read_link_proof
@@ -35,11 +34,14 @@ CHANGED, LOT, SMALL, SOME = 100_000, 500, 4000, 60
 
 
 def each_proof(room):
-    """each proof of this run, by the module"""
+    """each small proof, map and evidence of other cases, by the module"""
     built()
-    try_some(room.program)
-    if not (ASKED and ASKED[0].count):
-        raise Wrong("  no proof of this run was judged by the module")
+    rows = [row for row in sampled() if has(row[0])]
+    asked_for = [(form, *files) for form, _, files, _ in rows]
+    found = [answer for first in range(0, len(rows), LOT) for answer in start_node().judge(asked_for[first : first + LOT])]
+    wrong = [row for row, answer in zip(rows, found) if answer != (row[1], row[3])]
+    if wrong:
+        raise Wrong(f"  of {len(rows)} questions {len(wrong)} are answered otherwise, first {wrong[0]}")
 
 
 def changed(rand, proof):
@@ -62,45 +64,27 @@ def changed(rand, proof):
 
 
 def changed_proofs(room):
-    """100,000 changed proofs, maps, evidence and lines of this run, by the library and by the module: no answer differs"""
+    """100,000 changed proofs, maps, evidence and lines, by the library and by the module: no answer differs"""
     built()
-    try_some(room.program)
-    reach_some(room.program)
     rand, tried = random.Random("changed"), small_ones()
-    if not tried:
-        raise Wrong("  no proof of this run was judged by the library")
     for _ in range(CHANGED // LOT):
         lot = []
         for _ in range(LOT):
             form, *files = rand.choice(tried)
             place = rand.randrange(len(files) - 1) if rand.randrange(8) else len(files) - 1
             lot.append((form, *files[:place], changed(rand, files[place]), *files[place + 1 :]))
-        for (form, *files), found in zip(lot, asked().judge(lot)):
-            wanted = by_library(form, files)
+        for (form, *files), found in zip(lot, start_node().judge(lot)):
+            wanted = judge(form, files)
             if found != wanted:
                 raise Wrong(f"  {FUNCTIONS[form]} of {[data.hex() for data in files]}\n  the library answers {wanted}\n  the module {found}")
 
 
-def reach_some(program):
-    """Judges some maps and evidence by program, library and module, where no other case of this run did and the library knows them."""
-    for one in (*islice(maps.cases(), SOME), *islice(forks.cases(), SOME)) if getattr(library, "REACHED", None) == [] else ():
-        wrong = difference(program, one)
-        if wrong:
-            raise Wrong(wrong)
-
-
 def small_ones():
-    """The small files of this run that the library judged, each with the letter of its function."""
-    tried = [(form, proof, anchors) for form, _, proof, anchors, _ in library.TRIED if len(proof) < SMALL]
-    reached = [(form, *files) for form, _, files, _ in getattr(library, "REACHED", ()) if has(form) and max(map(len, files)) < SMALL]
+    """The small files that the library is asked for, each with the letter of its function."""
+    small = [(form, *files) for form, _, files, _ in sampled() if has(form) and max(map(len, files)) < SMALL]
+    tried, reached = ([row for row in small if (row[0] in "vs") == is_proof] for is_proof in (True, False))
     # (as many of these as of proofs, or all)
     return tried + reached * max(1, len(tried) // (4 * max(1, len(reached))))
-
-
-def by_library(form, files):
-    if form in "vs":
-        return timeweave.library().judge(*files, form == "s")
-    return timeweave.library().ask(f"timeweave_{FUNCTIONS[form]}", *files)
 
 
 OF_MODULE = "timeweave.test.mjs"
@@ -249,23 +233,105 @@ def stops(work, *words):
 
 
 def build_stops(room):
-    """the build stops at an intrinsic that isn't known, inline assembly, a tool that isn't the pinned one, and where wasm-opt is missing"""
-    built()
+    """the build stops at an intrinsic that isn't known, inline assembly, and a tool that isn't the pinned one"""
+    needs("rt", "the kit")
     import build_page
 
     plain = 'declare void @llvm.memmove.p0.p0.i64()\nattributes #0 = { nounwind "probe-stack"="inline-asm" "target-cpu"="x86-64-v2" }\n'
     found = [stops(build_page.retargeted, plain + more) for more in ("", "call void @llvm.x86.sha256rnds2()", 'call void asm "nop", ""()')]
-    kept, path = build_page.PINNED, os.environ["PATH"]
     found.append(stops(build_page.check_tools))
-    try:
-        build_page.PINNED = {**kept, "clang": "0" * 64}
+    with mock.patch.dict(build_page.PINNED, clang="0" * 64):
         found.append(stops(build_page.check_tools))
-        os.environ["PATH"] = str(room.folder)
-        found.append(stops(build_page.check_tools))
-    finally:
-        build_page.PINNED, os.environ["PATH"] = kept, path
-    if found != [None, 1, 1, None, build_page.OTHER_TOOL, build_page.NO_WASM_OPT]:
+    if found != [None, 1, 1, None, build_page.OTHER_TOOL]:
         raise Wrong(f"  statuses {found}")
+
+
+# Modules that are joined, by what is wrong with them.
+JOINED = {
+    "": ({"a.mjs": "export const ONE = 1;\nconst own = 2;\n", "page/b.mjs": 'import {\n    ONE,\n} from "../a.mjs";\nexport async function two() {\n    return ONE;\n}\n'},),
+    "declare": ({"a.mjs": "const one = 1;\n", "b.mjs": "function one() {}\n"}, {"a.mjs": "const { one, two } = it;\n", "b.mjs": "let two = 1;\n"}),
+    "imports what": (
+        {"a.mjs": "export const one = 1;\n", "b.mjs": 'import { two } from "./a.mjs";\n'}, {"b.mjs": 'import { one } from "./a.mjs";\n', "a.mjs": "export const one = 1;\n"},
+        {"a.mjs": "export const one = 1;\n", "b.mjs": 'import { one as two } from "./a.mjs";\n'}, {"a.mjs": "export const one = 1;\n", "b.mjs": 'import { one } from "./c.mjs";\n'},
+    ),
+    "isn't known": (
+        {"a.mjs": 'import one from "./b.mjs";\n'}, {"a.mjs": 'import * as one from "./b.mjs";\n'}, {"a.mjs": "const one = 1;\nexport { one };\n"}, {"a.mjs": "export default 1;\n"},
+        {"a.mjs": 'export * from "./b.mjs";\n'}, {"a.mjs": 'import "./b.mjs";\n'},
+    ),
+}  # fmt: skip
+
+
+def joined_modules(room):
+    """modules are joined into one script that runs as they do; two that declare one name, imports of what isn't declared before, and other forms are refused"""
+    node = needs("node", "nodejs")
+    needs("rt", "the kit")
+    import build_page
+
+    for why, groups in JOINED.items():
+        for modules in groups:
+            try:
+                script = build_page.join_modules(modules)
+            except build_page.Stopped as stopped:
+                if not why or why not in str(stopped):
+                    raise Wrong(f"  {modules}: {stopped}") from stopped
+            else:
+                if why:
+                    raise Wrong(f"  {modules}: joined, and {why}")
+                ran = subprocess.run([node, "-e", f"{script}two().then((it) => console.log(it + own));"], capture_output=True, text=True)
+                if ran.stdout != "3\n":
+                    raise Wrong(f"  {script}\n  {ran}")
+
+
+# What Node prints of the module of addresses.c; past 4 GiB nothing grows.
+ASKING = """
+import { readFileSync } from "node:fs";
+const { mix, grow, put } = (await WebAssembly.instantiate(readFileSync(process.argv[2]))).instance.exports;
+const told = Array.from({ length: 300 }, (_, at) => mix(BigInt(at) * 0x123456789n));
+told.push(put(8n, 77n), put(8n, 1n), grow(3n), put(150000n, 5n), put(150000n, 6n), grow(70000n), grow(1n));
+console.log(told.join(" "));
+"""
+
+
+def narrow_addresses(room):
+    """a module that is given 32-bit addresses answers as it did with 64-bit ones: each load and store, copied and filled memory, memory that grows or can't; others are refused"""
+    node = needs("node", "nodejs")
+    needs("rt", "the kit")
+    import addresses
+    import build_page
+
+    tools = build_page.check_tools()
+    words = [*build_page.TARGET, "-O2", "-ffreestanding", "-nostdinc", "-c", TOP / "tests/acceptance/harness/addresses.c", "-o", room.folder / "addresses.o"]
+    subprocess.run([tools["clang"], *words], check=True)
+    wide = build_page.linked(room.folder, tools, ("mix", "grow", "put"), "addresses.o")
+    narrow = addresses.lower_addresses(wide)
+    room.put("asking.mjs", ASKING.encode())
+    told = []
+    for name, module, flags in (("wide", wide, ["--experimental-wasm-memory64"]), ("narrow", narrow, [])):
+        room.put(name, module)
+        told.append(subprocess.run([node, *flags, room.folder / "asking.mjs", room.folder / name], check=True, capture_output=True, text=True).stdout)
+    if told[0] != told[1] or not told[0].endswith(" 0 77 20 0 5 -1 21\n"):
+        raise Wrong(f"  with 64-bit addresses {told[0][-300:]}\n  with 32-bit ones      {told[1][-300:]}")
+    if not all(name in (room.folder / "wide").read_bytes() for name in (b"\xfc\x0a\0\0", b"\xfc\x0b\0")):
+        raise Wrong("  no memory is copied and filled")
+    for module in (narrow, b"", wide[:8] + b"\2\1\0" + wide[8:], wide.replace(b"\xfc\x0b\0", b"\xfc\x11\0")):
+        try:
+            addresses.lower_addresses(module)
+        except (addresses.Refused, IndexError):
+            continue
+        raise Wrong(f"  {module[:20]!r} wasn't refused")
+
+
+def checked_types(room):
+    """tsc finds nothing in the module and the page's modules, and the declared types are those of the module; a type that isn't is found"""
+    tsc = needs("tsc", "node-typescript")
+    shutil.copytree(WEB, room.folder / "web", ignore=shutil.ignore_patterns("examples", "*.wasm", "*.html"))
+    shutil.copyfile(WEB / "timeweave.mjs", room.folder / "web/tests/made.mjs")
+    types = room.folder / "web/timeweave.d.mts"
+    for old, new, wanted in (("", "", ""), ("NO_MEMORY: 6;", "NO_MEMORY: 7;", "declared.mts(")):
+        types.write_text(types.read_text().replace(old, new) if old else types.read_text())
+        done = subprocess.run([tsc, "-p", room.folder / "web/tests"], capture_output=True, text=True, timeout=LONGEST)
+        if (done.returncode == 0) != (not wanted) or wanted not in done.stdout:
+            raise Wrong(f"  {new or 'as it is'}: {done.stdout}{done.stderr}")
 
 
 def in_browser(name, is_paper=False):
@@ -291,7 +357,7 @@ def in_browser(name, is_paper=False):
 
 
 def cases():
-    for work in (each_proof, changed_proofs, node_tests, page_parts, opened_steps, of_these_sources, build_stops, *map(in_browser, ("chromium", "firefox"))):
+    for work in (each_proof, changed_proofs, node_tests, page_parts, opened_steps, of_these_sources, build_stops, joined_modules, narrow_addresses, checked_types, *map(in_browser, ("chromium", "firefox"))):
         yield case(work, "page")
     for name in ("chromium", "firefox"):
         yield case(in_browser(name, is_paper=True), "page")

@@ -11,6 +11,7 @@ import signal
 import tarfile
 
 from cases.weft_exchange import pair
+from cases.weft_stamps import Stamped
 from harness.limits import without_rights
 from harness.rooms import Wrong, case
 from harness.weft_room import SHARE, Loom, each_fault
@@ -262,6 +263,48 @@ def made_up(room):
         raise Wrong(f"  {set(after) - set(before)}")
 
 
+def made_up_settings(room):
+    """where a backup's box.conf has a turn write elsewhere, that is told, with 10; nobody else may write what comes back, or read it but for what is carried, whatever the
+    backup says"""
+    net = pair(room)
+    loom = net.loom
+    night(net)
+    settings = loom.read("box-shop/box.conf")
+    loom.put("box-shop/box.conf", settings + b"publish = ../home/public\nbackup = ../home/.ssh/authorized_keys\n")
+    for name, mode in (("shop", 0o777), ("shop.lines", 0o666), ("shop.anchor", 0o644), ("box-shop/box.conf", 0o666), ("box-shop/bank/out", 0o775), ("box-shop/bank/in", 0o770)):
+        os.chmod(loom.folder / name, mode)
+    loom.expect("backup shop box-shop tmp/b", 0)
+    told = ("weft exchange would write where it says", "look first at publish = ", "look first at backup = ", "home/.ssh/authorized_keys.", "files or folders of the backup, as")
+    loom.expect("restore tmp/b two box-two", 10, *told)
+    for name, mode in (("two", 0o700), ("two.lines", 0o600), ("two.anchor", 0o644), ("box-two/box.conf", 0o600), ("box-two/bank/out", 0o755), ("box-two/bank/in", 0o770)):
+        if os.stat(loom.folder / name).st_mode & 0o777 != mode:
+            raise Wrong(f"  {name}: {os.stat(loom.folder / name).st_mode:o}")
+    loom.put("box-shop/box.conf", settings + b"publish = www\n")
+    loom.expect("backup shop box-shop tmp/c", 0)
+    loom.expect("restore tmp/c three box-three", 0, absent=("would write", ))
+
+
+def sizes_below_none(room):
+    """a tar file of which a head says that the file behind it has fewer than no bytes is no backup: it is read to its end, and no further"""
+    loom = logged(room)
+
+    def head(name, size, kind=b"0"):
+        data = bytearray(512)
+        for place, text in ((0, name), (100, b"0000600\0"), (108, b"0000000\0"), (116, b"0000000\0"), (124, size), (136, b"00000000000\0"), (148, b" " * 8), (156, kind), (257, b"ustar\x0000")):
+            data[place : place + len(text)] = text
+        data[148:156] = b"%06o\0 " % sum(data)
+        return bytes(data)
+
+    front = head(b"weft-backup", b"%011o\0" % 14) + b"weft backup 1\n".ljust(512, b"\0")
+    below, pax = b"\xff" * 8 + (-512).to_bytes(4, "big", signed=True), b"13 size=-512\n"
+    loom.put("tmp/one", front + head(b"x", below) + bytes(1024))
+    loom.put("tmp/two", front + head(b"p", b"%011o\0" % len(pax), b"x") + pax.ljust(512, b"\0") + head(b"x", b"00000000000\0") + bytes(1024))
+    for name in ("one", "two"):
+        loom.expect(f"restore tmp/{name} new", 9, "is no backup")
+        loom.expect(f"tell tmp/{name}", 9)
+        loom.expect(f"backup log tmp/{name}", 7, "isn't written over")
+
+
 def with_faults(room):
     """weft backup killed, and failing with a full or a bad device, at each of its writes, renames and runs of the program: the backup before stands whole or the new
     one does, and the next run makes it"""
@@ -497,8 +540,52 @@ def beyond():
     Store.history_size = lambda self: None
 
 
+def own_files(room):
+    """the stamps of kept lines, the names that are another service's and what was made come along, and come back: what is here stays, a stamp that goes on from another comes
+    in its place, one that differs beside it; what is none, or lacks something, is told; so is a backup that lacks what the one before had"""
+    loom = Stamped(room)
+    with loom.serving(loom.authority("tsa")) as served:
+        loom.expect(f"stamp l --url {served.address('good')}", 0)
+        (path,) = loom.stamps()
+        first = path.read_bytes()
+        loom.expect(f"stamp l --url {served.address('good')} --out l2.stamp", 0)
+        both = {it: it.read_bytes() for it in loom.stamps()}
+    loom.put("kept.others", "shop-2\n")
+    loom.put("kept.made", "data /srv/old\ndata /srv/gone\n")
+    os.symlink("nowhere", loom.folder / "kept.stamps/odd")
+    loom.expect("backup shop tmp/b", 10, "kept.stamps/odd is no regular file, and isn't in the backup")
+    (loom.folder / "kept.stamps/odd").unlink()
+    lose(loom, "shop", "shop.lines", "shop.anchor", "shop.seal", "shop.entries", "shop.known", "shop.backup", "kept.stamps", "kept.others", "kept.made", "kept")
+    loom.put("kept.made", "other /srv/new\nnever-sent data /srv/gone 2026-12-01T02:31:07Z\n")
+    done = loom.expect("restore tmp/b shop", 0, f"{len(both)} stamp", "of the backup", "kept.others is that of the backup", "kept.made has 1 row of the backup")
+    if {it: it.read_bytes() for it in loom.stamps()} != both or loom.read("kept.others") != b"shop-2\n":
+        raise Wrong(f"  {done}\n  {loom.stamps()}")
+    made = loom.read("kept.made").decode().splitlines()
+    if made[:3] != ["other /srv/new", "never-sent data /srv/gone 2026-12-01T02:31:07Z", "data /srv/old"] or len(made) != 4 or not made[3].startswith("shop /"):
+        raise Wrong(f"  {made}")
+    loom.expect("judge p", 0, "stood by")
+    lose(loom, "shop")
+    path.write_bytes(first + both[path])
+    loom.put("kept.others", "bank-2\n")
+    loom.expect("restore tmp/b shop", 10, "kept.others lacks lines that the backup has", absent=("stamp", "row"))
+    if path.read_bytes() != first + both[path]:
+        raise Wrong("  a renewed stamp was written over")
+    lose(loom, "shop")
+    path.write_bytes(b"x" + first)
+    loom.expect("restore tmp/b shop", 10, "1 stamp of the backup is kept beside ")
+    if path.read_bytes() != b"x" + first or first not in [it.read_bytes() for it in loom.stamps()]:
+        raise Wrong(f"  {loom.stamps()}")
+    shutil.rmtree(loom.folder / "kept.stamps")
+    loom.expect("backup shop tmp/b", 10, "the backup in whose place it came had kept.stamps/shop/", "among your own files", "An earlier backup may have them")
+    loom.expect("backup shop tmp/b", 0, absent=("in whose place",))
+    loom.put("kept.stamps/shop/letter", "dear Anna\n")
+    loom.expect("backup shop tmp/b", 0)
+    lose(loom, "shop", "kept.stamps")
+    loom.expect("restore tmp/b shop", 10, "own/kept.stamps/shop/letter is no stamp, and isn't put back")
+
+
 def cases():
     works = (
-        with_peers, too_old, alone, nothing_written_over, old_store_backed_up, of_another_box, damaged, made_up, with_faults, restored_with_faults, no_room, at_once, odd_things, watched, accused, key_elsewhere, each_line,
+        with_peers, own_files, too_old, alone, nothing_written_over, old_store_backed_up, of_another_box, damaged, made_up, made_up_settings, sizes_below_none, with_faults, restored_with_faults, no_room, at_once, odd_things, watched, accused, key_elsewhere, each_line,
     )  # fmt: skip
     return [case(work, "weft backup") for work in works]

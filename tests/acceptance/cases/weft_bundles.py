@@ -4,12 +4,17 @@ import io
 import random
 import subprocess
 import zipfile
+from pathlib import Path
+
+import changed_bundles
 
 from cases.weft_stamps import Stamped
 from harness.rooms import Wrong, case, needs
 from harness.weft_room import SHARE
+from harness.web import MODULE
 
 from weft.deciding.bundles import Unfit, read_bundle, write_bundle
+from weft.sentences import fill
 
 SENT, KEPT = "the sender's alone", "is the one that you kept"
 
@@ -107,7 +112,7 @@ def refused(room):
         raise Wrong(f"  {found}")
     for name, (changed, why) in hostile(found, data).items():
         loom.put(f"{name}.zip", changed)
-        loom.expect(f"judge {name}.zip", 9, "not judged", why.value if why is not None else "")
+        loom.expect(f"judge {name}.zip", 9, "not judged", fill(why.value) if why is not None else "")
     rand = random.Random("bundles")
     for number in range(0, 400, SHARE):
         place, changed = rand.randrange(len(data)), bytearray(data)
@@ -131,6 +136,91 @@ def not_made(room):
         raise Wrong("  a bundle was written")
 
 
+def of_each_kind(room):
+    """two map files, evidence, and a chain with both its records go into a bundle and are judged as by themselves; of a chain that carries a line it is told, with how the
+    reader judges that, and the line that its maker keeps goes along and binds where it meets one of the reader's; no other two files are judged together"""
+    loom = Sent(room)
+    loom.env |= {"WEFT_KEPT": str(loom.folder / "kept")}
+    loom.service("bank", [b"opened"])
+    loom.put("m", loom.timeweave("thread", "shop", "0"))
+    loom.timeweave("receive", "bank", "m")
+    loom.append("bank", b"paid")
+    loom.append("shop", b"closed")
+    for name, words in (("later", "prove bank event 3 0"), ("received", "prove bank thread 2 shop 2"), ("earlier", "prove shop event 1 0 2"), ("low", "map bank low 3 shop"), ("high", "map shop high 3 bank")):
+        loom.put(name, loom.timeweave(*words.split()))
+    loom.put("carried", loom.timeweave("join", "later", "received", "earlier"))
+    for name in ("bank", "shop"):
+        loom.put(f"{name}.line", loom.run("line", name).out)
+        loom.expect(f"keep {name}.line --by mail", 0)
+    loom.put("paid", b"paid")
+    loom.put("bread", b"bread")
+    loom.expect("bundle maps.zip low high", 0, "maps.zip has the proof, 2 lines")
+    loom.expect("judge maps.zip", 0, "maps.zip: shown", absent=("and maps.zip",))
+    loom.expect("judge maps.zip --json", 0)
+    loom.expect("judge maps.zip", 12, "maps.zip: not judged", SENT, WEFT_KEPT=loom.folder / "none/kept")
+    loom.expect("bundle c.zip carried --file bread --file paid", 0, "both records", "It carries the line of step 2 of shop", "--carried")
+    if "held" not in (found := read_bundle(loom.read("c.zip"))) or found["held"] != f"{loom.read('l').decode()}".encode():
+        raise Wrong(f"  {found}")
+    loom.expect("judge c.zip", 0, "c.zip: shown", "bread is the file that was logged as the earlier event", "paid is the file that was logged as the later event")
+    loom.put("none/kept", f"{loom.read('bank.line').decode().strip()} 2026-11-29T09:40:00Z by letter\n")
+    loom.expect("judge c.zip", 1, "c.zip: shown in part", "By bank's word alone: bread", WEFT_KEPT=loom.folder / "none/kept")
+    loom.expect("judge c.zip --carried", 0, "c.zip: shown in part", WEFT_KEPT=loom.folder / "none/kept")
+    loom.put("c2.zip", write_bundle({**found, "record": b"broad"}))
+    loom.expect("judge c2.zip", 1, "c2.zip: not shown: recorded, but as no file")
+    loom.put("two.zip", write_bundle({**found, "proof-2": loom.read("high")}))
+    loom.expect("judge two.zip", 9, "has two files that aren't judged together")
+    for words, told in (("bundle n.zip high low", "aren't a low map file and a high one"), ("bundle n.zip carried low", "aren't a low map file"), ("bundle n.zip t --file a --file b --file c", "2 records at most")):
+        loom.expect(words, 2, told)
+    loom.expect("bundle n.zip low", 12, "is one of two map files")
+
+
+# So many changed bundles are tried by both; as many where the page's module isn't built, in whose place the program judges, which takes long.
+CHANGED, CHANGED_BY_PROGRAM = 800, 24
+
+
+def by_both(room):
+    """weft and the page read a changed bundle alike, and say the same of it and of whose its lines are: none of the sender's counts"""
+    count = max(CHANGED // SHARE, CHANGED_BY_PROGRAM) if MODULE.exists() else CHANGED_BY_PROGRAM
+    wrong, seen = changed_bundles.tried(Path(room.program).resolve(), "bundles", range(count))
+    if wrong or not any(told.startswith("opened, shown") for told in seen):
+        raise Wrong("\n".join([*wrong[:3], f"  {dict(seen)}"]))
+
+
+def among_many(room):
+    """bundles among many files are judged as by themselves, with their days, and anew each time: before and after a key is noted; two whose lines are signed by one key and
+    contradict each other are told, and a record that isn't the one of the event isn't shown"""
+    loom = Sent(room)
+    found = read_bundle(loom.read("b.zip"))
+    for name, data in (("a.zip", loom.read("b.zip")), ("b/c.zip", write_bundle({**found, "record": b"broad"})), ("t", loom.read("t")), ("cut.zip", loom.read("b.zip")[:-1])):
+        loom.put(f"many/{name}", data)
+
+    def table(status, **more):
+        done = loom.expect("judge --many many --table table --workers 1", status, **more)
+        rows = [line.split("\t") for line in loom.read("table").decode().splitlines()[2:]]
+        return done, {row[0]: row for row in rows}
+
+    _, rows = table(9)
+    if [rows[name][3:5] for name in ("a.zip", "b/c.zip", "t", "cut.zip")] != [["not judged", "12"], ["not judged", "12"], ["not judged", "12"], ["not judged", "9"]]:
+        raise Wrong(f"  {rows}")
+    loom.expect("keep --signer town town.key.pub", 0)
+    done, rows = table(1)
+    alone = {name: loom.run("judge", f"many/{name}") for name in ("a.zip", "b/c.zip")}
+    if [rows[name][3:5] for name in ("a.zip", "b/c.zip")] != [["shown", "0"], ["not shown", "1"]] or [alone[name].status for name in ("a.zip", "b/c.zip")] != [0, 1] or rows["a.zip"][9]:
+        raise Wrong(f"  {rows}\n  {alone}")
+    _, rows = table(1, WEFT_AUTHORITIES=loom.folder / ".config/weft/authorities")
+    if not rows["a.zip"][9].startswith("town 1 by 20") or not rows["a.zip"][9].endswith("(tsa)"):
+        raise Wrong(f"  {rows}")
+    loom.service("town", [b"bribe"], folder="other")
+    loom.put("o", loom.timeweave("prove", "other", "event", "1", "0"))
+    loom.expect("line other --sign town.key --out other.line", 0)
+    loom.put("nobody", "")
+    loom.expect("bundle many/d.zip o --line other.line --kept nobody", 0)
+    done, rows = table(11)
+    if rows["d.zip"][4] != "11" or rows["a.zip"][4] != "11" or "CONTRADICT EACH OTHER" not in done.out:
+        raise Wrong(f"  {done}\n  {rows}")
+    loom.expect("judge many/a.zip many/d.zip", 11, "TWO LINES")
+
+
 def cases():
     """All cases of this module."""
-    return [case(work, "weft bundles") for work in (whose_lines, by_others, refused, not_made)]
+    return [case(work, "weft bundles") for work in (whose_lines, by_others, refused, not_made, of_each_kind, among_many, by_both)]

@@ -17,7 +17,7 @@ from timeweave_reference.receipts import Receipt
 
 sys.path.append(str(TOP / "examples"))
 
-from ten_cases import CASES, make_world  # noqa: E402
+from ten_cases import CASES, make_bundle, make_case, make_world  # noqa: E402
 
 DIGEST = "f942d248a81932a858edb9a38e425ccf6042e8323587c4f74272765e4d131234"
 
@@ -292,6 +292,27 @@ def ten_cases(room):
         raise Wrong("\n".join(wrong))
 
 
+def from_one_file(room):
+    """the same ten cases, each with what was sent in one bundle, get the answer that they get from loose files: the same headline, status and text of the judge"""
+    loom = Loom(room)
+    world = make_world(loom.program, loom.folder / "world")
+    loom.put("none", "")
+    for case in CASES:
+        folder = loom.folder / case.name
+        words = make_case(world, case, folder)
+        make_bundle(world, case, folder)
+        carried = ["--carried"] * ("--carried" in words)
+        lines = str(folder / "my.lines")
+        loose = ["judge", f"{case.name}/{case.proof}", "--kept", lines, *carried, *(["--file", f"{case.name}/deed.txt"] if case.document is not None else [])]
+        said = []
+        for told in (loose, ["judge", f"{case.name}/evidence.zip", "--kept", lines, *carried]):
+            done = loom.run(*told, "--json", WEFT_SIGNERS=loom.folder / "none")
+            row = json.loads(done.out.splitlines()[0])
+            said.append((done.status, row["headline"], row.get("text"), row.get("missing"), row.get("contradicts")))
+        if said[0] != said[1] or said[1][1] != case.headline:
+            raise Wrong(f"  {case.name}\n  from loose files: {said[0]}\n  from one file:    {said[1]}")
+
+
 def whole_histories(room):
     """a whole history isn't judged by the page, which names the command that judges it; under the letter of a step that command shows the history that has its line,
     and doesn't show one that was made anew"""
@@ -330,5 +351,5 @@ def kept_files(room):
 
 
 def cases():
-    works = (listed, listed_without_a_part, listed_beyond_a_file, letters, for_reader, reported, ten_cases, whole_histories, kept_files)
+    works = (listed, listed_without_a_part, listed_beyond_a_file, letters, for_reader, reported, ten_cases, from_one_file, whole_histories, kept_files)
     return [case(work, "weft clerk") for work in works]

@@ -133,7 +133,7 @@ def called(text):
     return {name for found in CALLED.findall(text) for name in found if name}
 
 
-def found(room):
+def find_each(room):
     """a liar for each of the rules that two files can show is found among honest services, by the files that are named and by the table of all, and nobody else
     is called anything"""
     loom = Loom(room)
@@ -252,4 +252,4 @@ def receivers(room):
 
 
 def cases():
-    return [case(work, "weft liars") for work in (found, by_lines, alone, at_night, receivers)]
+    return [case(work, "weft liars") for work in (find_each, by_lines, alone, at_night, receivers)]

@@ -185,7 +185,7 @@ def keep_with_faults(room):
         raise Wrong(f"  kept: {loom.read('kept')}")
 
 
-def told(room):
+def tell_files(room):
     """weft tell says what each kind of file is and says, and that it is unjudged"""
     loom = Loom(room)
     loom.service("shop", [b"bread", b"\xff\x00"], [b"\x1b[31mred"])
@@ -248,5 +248,5 @@ def versions(room):
 
 
 def cases():
-    works = (printed, signed, wrong_key, by_hand, no_lines, keep_with_faults, told, versions)
+    works = (printed, signed, wrong_key, by_hand, no_lines, keep_with_faults, tell_files, versions)
     return [case(work, "weft lines") for work in works]

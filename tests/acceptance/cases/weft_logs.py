@@ -4,6 +4,7 @@ step twice."""
 import hashlib
 import json
 import os
+import shlex
 import shutil
 import subprocess
 from types import SimpleNamespace
@@ -387,6 +388,45 @@ def replaced(room):
     expect_log(loom)
 
 
+def hollow(room):
+    """a file that says to have very many bytes, and has next to none on the disk, is left out and told, and the others are logged; no word reads it to its end"""
+    loom = Loom(room)
+    folder_of(loom, "a", "b")
+    loom.expect("log src log data", 0, "2 files new")
+    for name in ("one", "two"):
+        os.truncate(loom.put(f"src/{name}", b"x"), 1 << 40)
+    loom.expect("log src log", 10, "left out: ./one", "left out: ./two", "next to none of them are on the disk", "2 as they were")
+    loom.expect("find log src/one", 9, "it isn't read")
+    loom.expect("record reg src/one --name reg", 9, "it isn't read")
+    os.truncate(loom.put("src/two", b"x" * 3_000_000), (1 << 30) + 1)
+    loom.expect("log src log", 10, "left out: ./one", "1 file new")
+
+
+def of_another_user(room):
+    """what another user put beside a service before it was made isn't gone on with, and no lock of his is taken; a time to wait that is no number is refused"""
+    loom = Loom(room)
+    folder_of(loom, "a")
+    me = os.geteuid()
+
+    def as_another():
+        """Whoever runs weft is another user than the one whose the files are, which are the system's for none."""
+        if me:
+            os.geteuid = lambda: me + 1
+
+    for end in (".entries", ".known", ".records", ".keys", ".lock"):
+        path = loom.put(f"log{end}", b"")
+        if not me:
+            os.chown(path, 65534, 65534)
+        loom.expect("log src log data", 5, f"log{end}", "another user's", patch=as_another)
+        if (loom.folder / "log").exists():
+            raise Wrong(f"  a service was made beside {end}")
+        for path in loom.folder.glob("log.*"):
+            path.unlink()
+    loom.expect("log src log data", 0)
+    for wait in ("nan", "-1", "x"):
+        loom.expect(f"log src log --wait {wait}", 2, "--wait")
+
+
 def changed_while_read(room):
     """a file that is changed while it is read is read once more, and where it is changed again it is left out and told; no digest is logged that no content
     of it had"""
@@ -463,7 +503,8 @@ def own_store(room):
 
 def unmounted(room):
     """a log or register that was made under a name in a folder isn't made there once more where its store and all beside it aren't there, as where its device isn't mounted for
-    a night; one whose note was taken out is; where it can't be noted, that is told"""
+    a night; one of which a person says, by the command that is told, that no line of it ever went out is, once, and where nothing tells otherwise; where it can't be noted,
+    that is told, also to one who has no folder of his own"""
     loom = Loom(room)
     folder_of(loom, "a")
     for words, again in (("log src srv/log data", "log src srv/log data"), ("record srv/reg --name reg --event x", "record srv/reg --name reg --event y")):
@@ -481,10 +522,38 @@ def unmounted(room):
         (loom.folder / "tmp/away").rename(loom.folder / "srv")
         loom.expect(again, 0)
         shutil.rmtree(loom.folder / "srv")
-    loom.put("kept.made", "".join(row for row in loom.read("kept.made").decode().splitlines(True) if not row.startswith("data ")))
     (loom.folder / "srv").mkdir()
+    done = loom.expect("log src srv/log data", 17, "Was no line of it ever handed out: weft keep --never-sent data srv/log")
+    told = shlex.split(done.err.strip().rpartition("handed out: weft ")[2])
+    loom.expect("keep --never-sent data srv/other", 12, "doesn't tell that data was made in srv/other")
+    loom.expect("keep --never-sent data srv/log --by me", 2, "goes without other words")
+    loom.put("kept", f"data-2 1 {'a' * 64}\n")
+    loom.expect(told, 17, "you keep a line of data")
+    loom.put("kept.others", "data-2\n")
+    loom.put("srv/log.anchor", f"data 1 {'a' * 64}\n")
+    loom.expect(told, 7, "files of a service stand beside srv/log")
+    (loom.folder / "srv/log.anchor").unlink()
+    loom.expect(told, 0, "By your word no line of data ever went out")
+    loom.expect(told, 12, "doesn't tell that data was made")
     loom.expect("log src srv/log data", 0, absent=("noted",))
+    loom.expect(told, 7, "the store of data is in srv/log")
+    if [row.split()[0] for row in loom.read("kept.made").decode().splitlines() if " data " in f" {row}" and not row.startswith("data-")] != ["never-sent", "data"]:
+        raise Wrong(f"  {loom.read('kept.made')}")
+    shutil.rmtree(loom.folder / "srv")
+    (loom.folder / "srv").mkdir()
+    loom.expect("log src srv/log data", 17, "--never-sent data srv/log")
     loom.expect("log src srv/other other", 0, "/proc/kept.made can't be written", "it isn't noted that other was made in srv/other", WEFT_KEPT="/proc/kept")
+    loom.expect("log src srv/third third", 0, "The system knows of no folder of your own (HOME), so it isn't noted that third was made in srv/third", WEFT_KEPT=None, patch=homeless)
+
+
+def homeless():
+    """The system knows of no folder of this user's own."""
+    from pathlib import Path
+
+    def home():
+        raise RuntimeError
+
+    Path.home = home
 
 
 def another_folder(room):
@@ -882,7 +951,7 @@ def proof_of_a_file(room):
 
 def cases():
     works = (
-        each_day, names_of_files, many_files, left_out, there_and_not_gone, unreadable_whole, replaced, changed_while_read, own_store, kept_nowhere, unmounted, another_folder, looked_at_after_a_restore, own_lines_changed, read_twice, copied_alone,
+        each_day, names_of_files, many_files, left_out, there_and_not_gone, unreadable_whole, replaced, changed_while_read, hollow, of_another_user, own_store, kept_nowhere, unmounted, another_folder, looked_at_after_a_restore, own_lines_changed, read_twice, copied_alone,
         waiting_for_peers, fewer_files, claimed_times, refused, with_others, with_faults, first_run_with_faults, two_at_once,
         proof_of_a_file, made_amid, no_entries_by_hand, entries_written_over, written_over_alike, all_closed, without_proc, endless, proved_and_gone, deep_and_alone,
     )  # fmt: skip

@@ -241,7 +241,7 @@ def over_the_web(room):
     place = Path(room.folder) / "network"
     # (the processes of the network are forked from this one, which may have looked for the program before)
     os.environ["TIMEWEAVE_PROGRAM"] = os.path.abspath(room.program)
-    program.found.cache_clear()
+    program.find_program.cache_clear()
     for name in ("web", "folders"):
         (place / name).mkdir(parents=True)
         with contextlib.ExitStack() as stack:

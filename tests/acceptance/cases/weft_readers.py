@@ -1,6 +1,7 @@
 """Acceptance cases of what misleads a reader: histories that tell others' lines, letters with headings, names that are commands, words that are passed over."""
 
 import hashlib
+import os
 import subprocess
 import sys
 
@@ -172,14 +173,15 @@ def programs_from_here(room):
 
 
 def written_over(room):
-    """nothing that a judgement read is written over by what is handed out, nor is a private key; a picture that an earlier run drew isn't taken for that of this one, and no
+    """nothing that a judgement read is written over by what is handed out, nor is a key; a picture that an earlier run drew isn't taken for that of this one, and no
     word that is named twice is passed over"""
     loom = two_services(room)
     key = loom.key("mine")
     loom.put("deed", b"bread")
     loom.put("many/proof", loom.read("bread3"))
+    public = f"{key}.pub"
     written = ("judge bread3 --report kept", "judge bread3 --svg bread3", "judge bread3 --file deed --report deed", "judge --many many --table kept", "line maker --letter kept")
-    for words in (*written, f"line maker --out {key}", f"judge bread3 --svg {key}"):
+    for words in (*written, f"line maker --out {key}", f"judge bread3 --svg {key}", f"line maker --out {public}", f"line maker --sign {key} --out {public}"):
         path = words.split()[-1]
         before = loom.read(path)
         loom.expect(words, 2, path, "isn't written over")
@@ -192,6 +194,49 @@ def written_over(room):
     loom.expect("judge bread3 --svg nowhere/picture", 5, "bread3: shown", "can't be written", absent=("not judged",))
     for words in ("bread3 --file other --file deed", "bread3 --svg a --svg b", "bank.history --top 9 --top 1", "--many many --many other"):
         loom.expect(f"judge {words}", 2, "is named twice")
+
+
+def written_beside(room):
+    """what comes beside a named file, under a name that nobody typed, is written over nothing but what came there so before; no file comes in the place of a link of the
+    system's, or of one that leads to a pipe or a device"""
+    loom = two_services(room)
+    keys = loom.key("mine"), loom.key("next")
+    for end, words in ((".sig", f"--sign {keys[0]} --out"), (".key", f"--sign {keys[0]} --introduce {keys[1]}.pub --out"), (".svg", "--letter")):
+        for named in (None, "a thesis"):
+            (loom.folder / "thesis").unlink(missing_ok=True)
+            if named:
+                loom.put("thesis", named)
+            loom.put(f"thesis{end}", "mine")
+            loom.expect(f"line maker {words} thesis", 7, f"thesis{end} is there already")
+            if loom.read(f"thesis{end}") != b"mine" or (named and loom.read("thesis") != named.encode()):
+                raise Wrong(f"  {end} was written over")
+        (loom.folder / f"thesis{end}").unlink()
+    for _ in range(2):
+        loom.expect(f"line maker --sign {keys[0]} --out handed", 0)
+        loom.expect("line maker --letter letter", 0)
+    os.mkfifo(loom.folder / "pipe")
+    for name, to in (("streams", "pipe"), ("device", "/dev/null")):
+        (loom.folder / name).symlink_to(to)
+        loom.expect(f"line maker --out {name}", 2, "isn't written over")
+        if not (loom.folder / name).is_symlink():
+            raise Wrong(f"  {name} was replaced")
+
+
+def proofs_beside(room):
+    """proofs whose names nobody typed come in the place of proofs alone"""
+    loom = Loom(room)
+    loom.expect("record reg --name reg --event one", 0)
+    digest = hashlib.sha256(b"one").hexdigest()
+    loom.put("list", digest)
+    for words in ("find reg --text one --proofs proofs", "prove reg list --many --out many"):
+        folder = loom.folder / words.split()[-1]
+        for _ in range(2):
+            loom.expect(words, 0)
+        (path,) = folder.iterdir()
+        path.write_bytes(b"mine")
+        loom.expect(words, 7, "is there already, and is no proof")
+        if path.read_bytes() != b"mine":
+            raise Wrong(f"  {words}: it was written over")
 
 
 def digests_and_files(room):
@@ -218,7 +263,8 @@ def long_names(room):
 
 
 def broken_receivers(room):
-    """what a chain tells by the word of a service that other files show to have broken a rule, or to have two histories, accuses nobody else"""
+    """what a chain tells by the word of a service that other files show to have broken a rule, or to have two histories, accuses nobody else; nor in
+    a table of many"""
     loom = Loom(room)
     loom.service("maker", [b"bread"], [b"more"])
     loom.service("maker", [b"bribe"], [b"more"], folder="anew")
@@ -237,6 +283,62 @@ def broken_receivers(room):
     accused = "of step 2 of maker, and"
     loom.expect("judge --carried chain true", 11, "TWO LINES: chain tells", accused)
     loom.expect("judge --carried chain true thread absent", 11, "thread and absent CONTRADICT EACH OTHER", absent=(accused,))
+    for names, apart in ((("chain", "true"), ["chain", "true"]), (("chain", "true", "thread", "absent"), ["chain", "thread"])):
+        for name in names:
+            loom.put(f"many/{name}", loom.read(name))
+        loom.expect("judge --many many --carried --table t --workers 1", 11)
+        rows = [row.split("\t") for row in loom.read("t").decode().splitlines()[2:]]
+        if sorted(row[0] for row in rows if row[5].startswith("CONTRADICTS")) != apart:
+            raise Wrong(f"  {rows}")
+
+
+def uncompared(room):
+    """that no document was compared stands in the table of many files, below it and in JSON; a table within the folder that is judged is refused; options stand between the
+    other words of a command too"""
+    loom = Loom(room)
+    loom.put("src/deed", "sold")
+    loom.expect("log src log data", 0)
+    (loom.folder / "many").mkdir()
+    loom.expect("prove log --out many/p deed", 0)
+    loom.expect("find log src/deed --proofs found log.anchor", 7, "deed: step 1 of data")
+    loom.service("bank", [b"open"])
+    loom.put("many/q", loom.timeweave("prove", "bank", "event", "1", "0"))
+    keep_lines(loom, "log", "bank")
+    loom.expect("judge many/p --json many/q", 0, '"many/p"', '"many/q"')
+    loom.expect("judge many/p --nosuch many/q", 2, "unrecognized")
+    loom.expect("judge many/p --file src/deed -- many/q", 2, "--file")
+    loom.expect("judge --many many --workers 1", 0, "2 files: 2 shown", "1 file: no document compared. weft judge PROOF --file FILE compares one")
+    rows = {row.split("\t")[0]: row.split("\t")[5] for row in loom.read("many.verdicts.tsv").decode().splitlines()[2:]}
+    if not rows["p"].endswith(" | no document compared") or "document" in rows["q"]:
+        raise Wrong(f"  {rows}")
+    loom.expect("judge --many many --workers 1 --json", 0, '"no_document_compared": 1')
+    for table in ("many/t", "many/below/t", "./many/../many/t"):
+        loom.expect(f"judge --many many --workers 1 --table {table}", 2, "would lie in the folder that is judged")
+    if {path.name for path in (loom.folder / "many").iterdir()} != {"p", "q"}:
+        raise Wrong("  something was written into the folder")
+
+
+def readers_lines(room):
+    """of two lines of one step that a reader holds, or held as a note says, he is to be asked, and not told to choose in his file; what stands behind # in a file of lines is told, and
+    a file of such notes alone; of two names of one content both are told where it is proved"""
+    loom = Loom(room)
+    loom.put("src/a", "x")
+    loom.expect("log src log data", 0)
+    line = loom.run("line", "log").out.strip()
+    note = f"contradiction: data 1 {line.split()[2]} {OTHER} 2026-01-01T00:00:00Z\n"
+    for text in (f"{line}\ndata 1 {OTHER}\n", note):
+        loom.put("his", text)
+        loom.expect("prove log a --for his --out p", 11, "among the reader's lines", "Ask him which of them counts", absent=("--choose FILE",))
+    loom.expect("tell his", 0, "1 note of lines that contradicted, and no line", "of step 1 of data there are lines that contradict")
+    loom.put("letter", f"# Forged in our name:\n#{line}\n{line}\n" + "# more\n" * 30)
+    loom.expect("tell letter", 0, "letter: line, unjudged", 'words behind #: "Forged in our name:"', "and 11 more rows of such words", absent=(f'"{line}"',))
+    loom.put("empty", "# only words\n")
+    loom.expect("tell empty", 9, "no format")
+    loom.put("b", "content")
+    loom.put("c", "content")
+    loom.expect("record reg b --name reg", 0)
+    loom.put("list", "b\nc\n")
+    loom.expect("prove reg --many list --out proofs", 0, "b (the same content: c), step 1 of reg", "1 proof,")
 
 
 def accused_by_stamps(room):
@@ -265,5 +367,5 @@ def accused_by_stamps(room):
 
 
 def cases():
-    works = (received_in_histories, histories_in_part, headings, typed_names, carried_beside, named_from_here, programs_from_here, written_over, digests_and_files, long_names, broken_receivers, accused_by_stamps)
+    works = (received_in_histories, histories_in_part, headings, typed_names, carried_beside, named_from_here, programs_from_here, written_over, written_beside, proofs_beside, digests_and_files, long_names, broken_receivers, uncompared, readers_lines, accused_by_stamps)
     return [case(work, "weft judge readers") for work in works]

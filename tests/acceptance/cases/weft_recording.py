@@ -3,8 +3,10 @@ found again."""
 
 import base64
 import hashlib
+import itertools
 import json
 import os
+import re
 import shutil
 import socket
 import struct
@@ -147,8 +149,10 @@ def forms_of_input(room):
     loom.expect("record s --input json", 0, patch=with_input("".join(json.dumps(it) + "\n" for it in values).encode()))
     if expect_records(loom) != {1: [b"one", b"", b"two"], 2: [b"a\nb", b"", b"\xff"], 3: [b"text", "\u00fc".encode(), b"\0\1"]}:
         raise Wrong(f"  {recorded(loom)}")
+    loom.expect(["record", "l" * 95, "--name", "long", "--event", "x"], 0)
+    loom.expect(["record", "l" * 95, "--serve", "--idle", "1"], 2, "has a name too long to be listened at: it has 95 bytes")
     loom.expect("record s --input pieces", 9, "event 2 of the input ends behind 1 of its 3 bytes", patch=with_input(b"\0\0\0\1a\0\0\0\3b"))
-    bad = ('{"event": 1}', "[]", '{"event": "a", "base64": ""}', '{"event": "a", "key": "b c"}', '{"other": "a"}', "{", '{"event": "\\ud800"}', '{"base64": "*"}')
+    bad = ('{"event": 1}', "[]", '{"event": "a", "base64": ""}', '{"event": "a", "key": "b c"}', '{"other": "a"}', "{", '{"event": "a", "event": "b"}', '{"event": "\\ud800"}', '{"base64": "*"}')
     for it in bad:
         loom.expect("record s --input json", 9, "event 1 of the input", patch=with_input(it.encode()))
     loom.expect("record s", 0, patch=with_input(b""))
@@ -275,7 +279,8 @@ def one_step_back(room):
 
 
 def without_records(room):
-    """a store whose records were lost makes no step until its last line is named; they are made anew of it then, without keys; a log takes no events, and a register is no log"""
+    """a store whose records were lost makes no step until its last line is named; they are made anew of it then, without keys; a log takes no events, and a register is no log: what
+    is told to do then does it"""
     loom = Loom(room)
     loom.put("long", b"y" * 2000)
     loom.expect("record s long --name reg --key k", 0)
@@ -288,7 +293,14 @@ def without_records(room):
     loom.put("src/a", "a")
     loom.expect("log src log data", 0)
     loom.expect("record log --event x", 2, "is a log of files")
-    loom.expect("log src s", 17)
+    for more in ([], ["--adopt-store", loom.read("s.anchor").decode().strip()]):
+        done = loom.expect(["log", "src", "s", *more], 2, "s is one of weft record, and no log of files. No step was made")
+    loom.expect("prove s long", 2, "s is one of weft record")
+    if (loom.folder / "s.entries").exists():
+        raise Wrong("  entries were made beside a register")
+    log, find = re.findall(r"weft ([^.:]*)", done.err.partition("of its own: ")[2])
+    loom.expect(log.replace("FOLDER", "src").replace("NAME", "name").replace("OTHER", "other"), 0)
+    loom.expect(find.strip().replace("FILE", "long"), 0, "step 1 of reg, index 0", "PROOFS/")
 
 
 def by_hand(room):
@@ -310,6 +322,28 @@ def by_hand(room):
     loom.expect("check t", 0)
     loom.put("t.records", b"".join(row for row in loom.read("t.records").splitlines(True) if not row.startswith(b"1 ")))
     loom.expect("check t", 10, untold.format(1).replace("s.", "t.", 1))
+
+
+def lines_beside(room):
+    """of a step whose lines a keeper puts into the records beside its making, and that was killed amid that, they are made anew of the store, all or those that lack; of one that
+    wasn't made they are taken away; and weft check tells that a run was stopped"""
+    loom = Loom(room)
+    lines = b"".join(b"2 %d %s\n" % (index, digest(b"%d" % index).encode()) for index in range(3))
+    for number, (size, is_made) in enumerate(itertools.product((0, 40, 69, 200, len(lines)), (False, True))):
+        name = f"s{number}"
+        loom.expect(f"record {name} --name reg --event one", 0)
+        if is_made:
+            loom.append(name, b"0", b"1", b"2")
+        loom.put(f"{name}.records", loom.read(f"{name}.records") + lines[:size])
+        loom.put(f"{name}.pending", b"beside 2\n")
+        loom.expect(f"check {name}", 10, "a run of weft record was stopped amid a step")
+        told = f"Step 2 of reg was made by a run that was stopped: its lines in {name}.records were made anew, of the store."
+        are_lacking = is_made and size < len(lines)
+        loom.expect(f"record {name} --event next", 0, *([told] if are_lacking else []), absent=("no run of weft record", *([] if are_lacking else ["made anew"])))
+        wanted = {1: [b"one"], **({2: [b"0", b"1", b"2"], 3: [b"next"]} if is_made else {2: [b"next"]})}
+        if expect_records(loom, name) != wanted or (loom.folder / f"{name}.pending").exists():
+            raise Wrong(f"  {size} bytes of lines, and the step was made: {is_made}\n  {recorded(loom, name)}")
+        loom.expect(f"check {name}", 0)
 
 
 def small_parts():
@@ -368,6 +402,62 @@ def many_proofs(room):
     loom.expect("prove s --many list --out more", 2, "names nothing")
 
 
+ODD = """
+import os, sys, timeweave
+with timeweave.Service("link", name="reg", weft=sys.argv[1]) as service:
+    for handed in (4711, True, [1, 2], "text", None):
+        for record in (service.record, lambda it: service.record_many([it])):
+            try:
+                print("taken", record(handed))
+            except TypeError:
+                pass
+    for events in (b"abc", "abc"):
+        try:
+            print("taken", service.record_many(events))
+        except TypeError:
+            pass
+    for key in (None, 0, b"k", 7):
+        try:
+            print("taken", service.record(b"x", key=key))
+        except TypeError:
+            pass
+    for data in (bytearray(b"one"), memoryview(b"two"), b"three"):
+        service.record(data)
+    for place in (["reg"], {}, None):
+        try:
+            print("taken", service.prove(timeweave.Receipt(place, 1, 0, b"", b"")))
+        except timeweave.RefusedEvent:
+            pass
+    child = os.fork()
+    if not child:
+        try:
+            service.record(b"child")
+        except ValueError as failure:
+            with timeweave.Service("s", weft=sys.argv[1]) as own:
+                own.record(b"four" if "forked off" in str(failure) else b"other")
+            os._exit(0)
+        os._exit(1)
+    print("ended", os.waitpid(child, 0)[1])
+    print("last", service.record(b"five").service)
+"""
+
+
+def odd_callers(room):
+    """what has no bytes isn't recorded as so many zeros, nor a key that is no text; a service that a fork inherits says so at once; a folder is found by a link to it, and a place
+    that is none ends no keeper"""
+    loom = Loom(room)
+    loom.expect("record s --name reg --event first", 0)
+    os.symlink("s", loom.folder / "link")
+    words = [sys.executable, "-c", ODD, command_of_weft(loom)]
+    done = subprocess.run(words, cwd=loom.folder, env=loom.env | {"PYTHONPATH": str(TOP / "bindings/python")}, capture_output=True, timeout=LONGEST)
+    if done.returncode or done.stdout.split() != [b"ended", b"0", b"last", b"reg"]:
+        raise Wrong(f"  {done.returncode} {done.stdout!r} {done.stderr[-2000:]!r}")
+    events = [event for step in sorted(recorded(loom).items()) for event in step[1]]
+    if events != [b"first", b"one", b"two", b"three", b"four", b"five"]:
+        raise Wrong(f"  {events}")
+    kill_keeper(loom.folder)
+
+
 WRITER = """
 import sys, timeweave
 name, count = sys.argv[1], int(sys.argv[2])
@@ -422,7 +512,9 @@ def by_many(room):
 
 def kills_of_many(room):
     """writers, keepers and programs are killed at drawn moments: an auditor finds all that was acknowledged in the store, and nothing twice"""
-    killed_often(room.folder, os.path.abspath(room.program), 6, "few")
+    for have_keys in (True, False):
+        (room.folder / str(have_keys)).mkdir()
+        killed_often(room.folder / str(have_keys), os.path.abspath(room.program), 6, "few", have_keys=have_keys)
 
 
 def full_device(room):
@@ -539,11 +631,13 @@ class FailingRecorder:
 
 def failed_amid(room):
     """where a step fails each request is answered once: what was recorded is told, and of the rest that it isn't known; so no later answer is taken for an earlier one"""
-    from weft.keeper import Asked, Client, Keeper
+    from weft.deciding.batching import frame
+    from weft.keeper import Asked, Client, Framed, Keeper
 
     own, other = socket.socketpair()
-    asked = [Asked({"record": [[base64.b64encode(it).decode(), ""] for it in events]}, Client(other)) for events in ([b"a"], [b"b", b"c"], [b"d"])]
-    asked.append(Asked({"line": True}, Client(other)))
+    client = Client(other)
+    asked = [Asked(Framed(len(events), b"\n".join(keys), b"", frame(events)), client) for events, keys in (([b"a"], [b"k"]), ([b"b", b"c"], []), ([b"d"], []))]
+    asked.append(Asked({"line": True}, client))
     try:
         Keeper.answer(FailingRecorder(), asked)
         raise Wrong("  no step failed")
@@ -558,6 +652,58 @@ def failed_amid(room):
     wanted = [{"recorded": [["reg", 1, 0, 1]]}, {"recorded": [unknown, unknown]}, {"recorded": [unknown]}, {"status": 5, "trouble": "the device is full."}]
     if answers != wanted:
         raise Wrong(f"  {answers}")
+
+
+def faulty_clients(room):
+    """a keeper takes of what is handed over only what is framed right, of which it sees the lengths, the keys and what stands for a digest: whoever hands over anything else is told
+    so and left, and others aren't hindered; a client of an earlier version is told that it is one"""
+    loom = Loom(room)
+    loom.expect("record s --name reg --event first", 0)
+    words = [sys.executable, "-m", "weft", "record", "s", "--serve", "--idle", "3"]
+    running = subprocess.Popen(words, cwd=loom.folder, env=loom.env | {"PYTHONPATH": str(TOP)}, stderr=subprocess.DEVNULL)
+    while not (loom.folder / "s.socket").exists() and running.poll() is None:
+        time.sleep(0.05)
+
+    def answered(data):
+        """What the keeper answers to one who sends that."""
+        with socket.socket(socket.AF_UNIX, socket.SOCK_STREAM) as connection:
+            at = os.open(loom.folder, os.O_PATH)
+            connection.connect(f"/proc/self/fd/{at}/s.socket")
+            os.close(at)
+            connection.sendall(data)
+            return connection.makefile("rb").readline()
+
+    def handed(*events, keys=b"", places=(), number=None, cut=0):
+        """Events as they are handed over."""
+        body, packed = b"".join(struct.pack(">I", len(it)) + it for it in events), struct.pack(f">{len(places)}I", *places)
+        body = body[: len(body) - cut]
+        return b"events %d %d %d %d\n" % (len(events) if number is None else number, len(keys), len(packed), len(body)) + keys + packed + body
+
+    bad = [handed(b"a", b"b", number=3), handed(b"a", b"b", cut=1), handed(b"a", b"bc", number=1), handed(b"x" * 1025), handed(*[b""] * 1025), handed(b"a", keys=b"k k"), handed(b"a", b"b", keys=b"k")]
+    bad += [handed(b"a", places=[0]), handed(digest(b"z").encode() + b"  -", places=[1]), b"events 1 0 0\n", b"events -1 0 0 0\n", b"events 1 0 0 99999999\n", b"events a b c d\n", b"[]\n", b"\n"]
+    half = socket.socket(socket.AF_UNIX, socket.SOCK_STREAM)
+    at = os.open(loom.folder, os.O_PATH)
+    half.connect(f"/proc/self/fd/{at}/s.socket")
+    os.close(at)
+    half.sendall(handed(b"half")[:-2])
+    for it in bad:
+        if b"that is no request" not in answered(it):
+            raise Wrong(f"  {it[:60]} is taken: {answered(it)}")
+    if b"later version" not in answered(json.dumps({"record": [["YQ==", ""]]}).encode() + b"\n"):
+        raise Wrong("  an earlier version isn't told")
+    good = [(b"a", b"b"), (b"a", b"", b"abc"), (b"goes on as reg-2", b"goes on as reg-3"), (b"new key x",)]
+    for number, events in enumerate(good, 2):
+        if json.loads(answered(handed(*events))) != {"recorded": [["reg", number, 0, len(events)]]}:
+            raise Wrong(f"  {events} aren't recorded")
+    long = digest(b"z" * 5000).encode() + b"  -"
+    if json.loads(answered(handed(b"x", long, keys=b"k\n", places=[1]))) != {"recorded": [["reg", 6, 0, 2]]}:
+        raise Wrong("  what is longer isn't recorded")
+    half.close()
+    if running.wait(LONGEST):
+        raise Wrong("  the keeper didn't end by itself")
+    own_words = [tuple(f"{digest(it)}  -".encode() for it in events) for events in good[2:]]
+    if list(map(tuple, expect_records(loom).values())) != [(b"first",), *good[:2], *own_words, (b"x", long)]:
+        raise Wrong(f"  {recorded(loom)}")
 
 
 def of_pushes(room):
@@ -612,7 +758,7 @@ def of_pushes(room):
 
 def cases():
     works = (
-        recorded_and_found, told_apart, forms_of_input, same_key, record_with_faults, old_store, one_step_back, words_of_a_service, another_listens, without_records, no_log, by_hand, in_parts, by_many, many_proofs, kills_of_many, full_device, service_of_python,
-        failed_amid, lost_keeper, of_pushes,
+        recorded_and_found, told_apart, forms_of_input, same_key, record_with_faults, old_store, one_step_back, words_of_a_service, another_listens, without_records, no_log, by_hand, lines_beside, in_parts, by_many, many_proofs, odd_callers, kills_of_many, full_device, service_of_python,
+        failed_amid, lost_keeper, faulty_clients, of_pushes,
     )  # fmt: skip
     return [case(work, "weft record") for work in works]

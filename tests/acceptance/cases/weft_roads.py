@@ -37,10 +37,11 @@ class Roads(Net):
             self.configure(name)
 
     def configure(self, name, *lines, openly=True):
-        """Writes the settings of a service's box."""
-        urls = [f"url {other} = {self.web.address(f'{other}/peers/{name}')}" for other in self.peers[name]]
-        own = [f"key = ../{name}.key", f"publish = ../web/{name}", *(["open = *"] if openly else []), "seconds = 30", *urls, *lines]
-        self.loom.put(f"box-{name}/box.conf", "\n".join(own) + "\n")
+        """Writes the settings of a service's box: these lines, and those that each has where none of these is in its place."""
+        own = [f"key = ../{name}.key", f"publish = ../web/{name}", *(["open = *"] if openly else []), "seconds = 30"]
+        own += [f"url {other} = {self.web.address(f'{other}/peers/{name}')}" for other in self.peers[name]]
+        given = {line.partition(" =")[0] for line in lines}
+        self.loom.put(f"box-{name}/box.conf", "".join(f"{line}\n" for line in [*(it for it in own if it.partition(" =")[0] not in given), *lines]))
 
     def carry(self, sender, receiver):
         """What a service put out is fetched by its peer."""
@@ -86,21 +87,21 @@ def one_command(room):
         loom = net.loom
         for night in range(3):
             loom.append("shop", b"night %d" % night)
-            net.web.asked()
+            net.web.take_asked()
             net.turn("shop", 0)
             net.turn("bank", 0, "shop: its step", "is recorded")
-            if not 2 <= len(net.web.asked()) <= 30:
+            if not 2 <= len(net.web.take_asked()) <= 30:
                 raise Wrong("  too many were asked")
         for name in net.peers:
             threads = received(loom, name)
             if len(set(threads)) != len(threads) or len(threads) < 3:
                 raise Wrong(f"  {name} received {threads}")
         net.turn("shop", 0)
-        net.web.asked()
+        net.web.take_asked()
         net.fetch("shop", "bank")
-        net.web.asked()
+        net.web.take_asked()
         net.fetch("shop", "bank", 0, "0 files came")
-        if net.web.asked() != ["/bank/peers/shop/index"]:
+        if net.web.take_asked() != ["/bank/peers/shop/index"]:
             raise Wrong("  what is the same was fetched again")
         loom.put("box-bank/shop/events", "* *\n")
         sent = loom.append("bank", b"sent").split()[1]
@@ -124,6 +125,9 @@ def settings(room):
     for line in bad:
         net.loom.put("box-shop/box.conf", f"key = ../shop.key\n{line}\n")
         net.turn("shop", 9, "line 2 of box-shop/box.conf is no setting", "url PEER = https://HOST/PATH/")
+    for first, second in (("seconds = 9", "seconds = 9"), ("url bank = https://a/", "url  bank = https://b/"), ("open = bank", "open = port")):
+        net.loom.put("box-shop/box.conf", f"key = ../shop.key\n{first}\n# x\n{second}\n")
+        net.turn("shop", 9, "lines 2 and 4 of box-shop/box.conf both set", "Keep the one that is meant")
     net.loom.put("box-shop/box.conf", "key = ../shop.key\nopen = bank, port\nseconds = 9\npublish = www\n")
     net.turn("shop", 5, "box-shop/www is no folder", "in box.conf the folder to publish into")
     for url, told in (("http://bank.example/x", "whoever is between reads"), ("bank", "no address like https://"), ("https://a/?x", "no address like")):
@@ -146,7 +150,7 @@ def hostile_servers(room):
             before, last = inside(loom, "box-shop/bank/in"), net.last("shop")
             net.configure("shop", f"seconds = {SECONDS}")
             net.web.be_hostile({"bank/": way})
-            net.web.asked()
+            net.web.take_asked()
             began = time.monotonic()
             done = net.turn("shop", 10, "bank: ", "127.0.0.1", absent=("EVIDENCE", "another authenticator"), patch=limited)
             taken = time.monotonic() - began
@@ -154,7 +158,7 @@ def hostile_servers(room):
                 raise Wrong(f"  {way}: {taken:.0f} seconds")
             if way != "wrong" and "nothing was fetched of 127.0.0.1: " not in done.out or way == "wrong" and "of 127.0.0.1 came 0 of" not in done.out:
                 raise Wrong(f"  {way}: {done.out}")
-            asked = net.web.asked()
+            asked = net.web.take_asked()
             if any(it.startswith("/elsewhere") for it in asked) or len(asked) > 80:
                 raise Wrong(f"  {way}: {asked}")
             if inside(loom, "box-shop/bank/in") != before or net.last("shop") != last:
@@ -205,15 +209,15 @@ def hostile_indexes(room):
         large = Listed("seen", 1 << 30, "b" * 64)
         answers = [Listed(f"answers/{number:016x}", 3, "c" * 64) for number in range(300)]
         parts = [Listed(f"bank-{number}/line", 3, "d" * 64) for number in range(200, 260)]
-        net.web.asked()
+        net.web.take_asked()
         loom.append("bank", b"flooded")
         net.turn("bank", 0)
         whole = read_index((place / "index").read_bytes())
         flooded = [*(it for it in whole.files if it.name != "seen"), large, *answers, *parts, Listed("box-conf", 3, "e" * 64)]
         loom.put("web/bank/peers/shop/index", Index("bank", "shop", tuple(sorted(flooded))).data)
-        net.web.asked()
+        net.web.take_asked()
         net.turn("shop", 10, "bank: its share of tonight is used up", "seen with 1,073,741,824 bytes", "61 names that no service puts out", "bank: its step", "is recorded")
-        if len(net.web.asked()) > 8 or any("000" in name for name in inside(loom, "box-shop/bank/in")):
+        if len(net.web.take_asked()) > 8 or any("000" in name for name in inside(loom, "box-shop/bank/in")):
             raise Wrong("  the flood was fetched")
 
     over_the_web(room, work)

@@ -65,9 +65,14 @@ def later(years):
     real = time.time
 
     def patch():
-        time.time = lambda: real() + years * YEAR
+        time.time = lambda: real() + int(years * YEAR)
 
     return patch
+
+
+def days_later(days):
+    """The same, by days."""
+    return later(days / 365)
 
 
 def stamped(room):
@@ -227,6 +232,134 @@ def in_order(room):
     loom.expect("judge carried", 1, absent=("Event 0 of step 1 of shop was recorded",))
 
 
+def each_night(room):
+    """the last line of a service is stamped each night, by weft stamp and by the turn whose box.conf names an authority: once, renewed before its certificate ends, and told by
+    weft status; what a backup has of it comes back; an authority that can't be asked is told with 10, and the turn and the backup stand"""
+    loom = Stamped(room)
+    loom.put("files/sold", b"bread")
+    loom.expect("log files log log", 0)
+    short, long = loom.authority("short", days=400), loom.authority("long", days=7300)
+    with loom.serving(short) as first, loom.serving(long) as second:
+        loom.expect(f"stamp log --url {first.address('good')} --json", 0, "stood by", "says short")
+        (path,) = (loom.folder / "log/stamps/log").glob("*.stamp")
+        old = path.read_bytes()
+        loom.expect(f"stamp log --url {first.address('page')}", 0, "no stamp is due")
+        loom.expect("status log", 0, "stamp: of step 1, ", ", short; the next renewal is due on")
+        loom.expect(f"stamp log --url {first.address('good')} --renew x", 2, "are for a file of a line")
+        loom.expect("log files log", 0)
+        loom.expect(f"stamp log --url {first.address('page')}", 10, "the line of step 2 isn't stamped", "no answer of a time-stamping authority")
+        loom.expect(f"stamp log --url {first.address('good')}", 0, "The line of step 2 of log stood by")
+        ahead = {"patch": days_later(320)}
+        loom.expect(f"stamp log --url {first.address('good')}", 10, "isn't renewed", "it would count no longer", **ahead)
+        if path.read_bytes() != old:
+            raise Wrong("  a stamp was renewed that counts no longer by that")
+        done = loom.run("status", "log", "--days", "2", **ahead)
+        if done.status != 10 or "a stamp is due to be renewed" not in done.err or "no line was stamped" not in done.err:
+            raise Wrong(f"  {done}")
+        loom.expect(f"stamp log --url {second.address('silent')} --seconds 1", 10, "counts until", "its time was up", **ahead)
+        loom.expect(f"stamp log --url {second.address('good')}", 0, "2 stamps were renewed", **ahead)
+        if not path.read_bytes().startswith(old) or path.read_bytes() == old:
+            raise Wrong("  the renewed stamp isn't the old one and another one behind it")
+        loom.put("p", loom.timeweave("prove", "log", "event", "1", "0"))
+        loom.expect("judge p --kept log.lines", 0, "stood by", "says short", "the stamp was renewed", patch=later(5))
+        path.write_bytes(old[:-1] + bytes([old[-1] ^ 1]))
+        loom.expect(f"stamp log --url {second.address('good')}", 10, "No renewal mends that")
+        path.write_bytes(old)
+        loom.expect("backup log b", 0)
+        os.rename(loom.folder / "log", loom.folder / "away")
+        for end in ("lines", "anchor", "seal", "entries"):
+            os.rename(loom.folder / f"log.{end}", loom.folder / f"away.{end}")
+        loom.expect("restore b log", 0)
+        if path.read_bytes() != old:
+            raise Wrong("  the backup has no stamps")
+
+
+def in_a_turn(room):
+    """a turn has the line that it made stamped where box.conf names an authority, before the backup; that no authority is trusted, or none answers, is told, counts, and
+    hinders nothing else"""
+    loom = Stamped(room)
+    loom.put("files/sold", b"bread")
+    loom.expect("log files log log", 0)
+    (loom.folder / "box").mkdir()
+    loom.key("log")
+    authority = loom.authority("tsa", is_trusted=False)
+    with loom.serving(authority) as served:
+        for settings, status, told in (
+            (f"stamp = {served.address('good')}", 10, "you trust no time-stamping authority"), ("stamp = nowhere", 9, "is no setting"), ("stamp = http://127.0.0.1:1/", 10, "Connection refused"),
+            (f"stamp = {served.address('good')}", 0, "stood by"),
+        ):  # fmt: skip
+            loom.put("box/box.conf", f"{settings}\nkey = {loom.folder}/log.key\nbackup = {loom.folder}/backed\n")
+            loom.expect("exchange log box", status, told)
+            if (status == 9) != (not (loom.folder / "backed").exists()) and status != 10:
+                raise Wrong(f"  {settings}: the backup")
+            if told.startswith("you trust"):
+                loom.expect("keep --authority tsa tsa.pem", 0)
+                (loom.folder / "backed").unlink()
+    last = loom.run("line", "log").out.split()
+    names = [path.name for path in (loom.folder / "log/stamps/log").glob("*.stamp")]
+    if len(names) != 1 or not names[0].startswith(f"{last[1]}-{last[2]}-"):
+        raise Wrong(f"  stamped is {names}, and the last line is {last}")
+    if b"service/stamps/log/" not in loom.read("backed"):
+        raise Wrong("  the backup was made before the stamp")
+
+
+def not_before(room):
+    """an event that has a value of a known day, and what is shown to have come after it, was recorded not before that day, as whoever names the value says; a value that no event
+    has, one behind a hop on somebody's word, and a day that contradicts a stamp, tell no day and are told"""
+    loom = Stamped(room)
+    loom.put("files/paper.pdf", b"news of the day")
+    loom.expect("log files log log", 0)
+    loom.append("log", b"deed 17")
+    for name, words in (("order", "event 2 0"), ("paper", "event 1 0")):
+        loom.put(name, loom.timeweave("prove", "log", *words.split()))
+    loom.put("log.line", loom.run("line", "log").out)
+    loom.expect("keep log.line --by mail", 0)
+    loom.expect("chain log:1:0 log:2:0 --store log --out c", 0)
+    told = "was recorded not before 2026-11-30, if nobody knew what is in files/paper.pdf earlier (not proved)"
+    loom.expect("judge c --beacon 2026-11-30 files/paper.pdf", 0, f"Event 0 of step 2 of log {told}", f"Event 0 of step 1 of log {told}")
+    loom.expect("judge paper --beacon 2026-11-30 files/paper.pdf", 0, f"Event 0 of step 1 of log {told}")
+    row = json.loads(loom.expect("judge c --beacon 2026-11-30 files/paper.pdf --json --report r.html", 0).out)
+    if [(it["step"], it["day"]) for it in row["not_before"]] != [(1, "2026-11-30"), (2, "2026-11-30")] or not any(it["what"] == "beacon" for it in row["inputs"]):
+        raise Wrong(f"  {row}")
+    if told.encode() not in loom.read("r.html"):
+        raise Wrong("  the report has no day")
+    loom.put("other", b"other news")
+    loom.expect("judge c --beacon 2026-11-30 other", 10, "other is no event of this proof", absent=("not before",))
+    loom.expect("judge order --beacon 2026-11-30 files/paper.pdf", 10, "is no event of this proof", absent=("not before",))
+    loom.put("deed", b"deed 17")
+    loom.expect("judge c --beacon 2026-11-30 files/paper.pdf --beacon 2026-12-01 deed", 0, "step 2 of log was recorded not before 2026-12-01", f"step 1 of log {told}")
+    for words, status, text in (
+        ("judge c --beacon today deed", 2, "is no day"), ("judge c --beacon 2026-02-29 deed", 2, "is no day"), ("judge c --beacon 2026-11-30 nothing", 3, "there is no file"),
+        ("judge c paper --beacon 2026-11-30 deed", 2, "of one proof"), ("judge --many files --beacon 2026-11-30 deed", 2, "--many takes no"),
+    ):  # fmt: skip
+        loom.expect(words, status, text)
+    loom.put("s", loom.authority("tsa").stamp(loom.read("log.line")))
+    loom.expect("keep log.line --stamp s", 0)
+    loom.expect("judge c --beacon 2026-11-30 files/paper.pdf", 0, "not before", "not after", absent=("before it could be",))
+    loom.expect("judge c --beacon 2226-11-30 files/paper.pdf", 10, "would have been there before it could be")
+    loom.put("kept", "")
+    loom.expect("judge c --beacon 2026-11-30 files/paper.pdf", 12, absent=("not before",))
+
+
+def not_before_on_a_word(room):
+    """of an order that only a receiver vouches for no day is told by a beacon"""
+    loom = Stamped(room)
+    loom.service("bank", [b"opened"])
+    loom.put("m", loom.timeweave("thread", "shop", "0"))
+    loom.timeweave("receive", "bank", "m")
+    loom.append("bank", b"paid")
+    for name, words in (("later", "bank event 3 0"), ("received", "bank thread 2 shop 2"), ("earlier", "shop event 1 0 2")):
+        loom.put(name, loom.timeweave("prove", *words.split()))
+    loom.put("carried", loom.timeweave("join", "later", "received", "earlier"))
+    loom.put("b", loom.run("line", "bank").out)
+    loom.expect("keep b --by mail", 0)
+    loom.put("bread", b"bread")
+    loom.expect("judge carried --beacon 2026-11-30 bread", 0, "was recorded not before 2026-11-30")
+    loom.put("kept", "".join(f"{line}\n" for line in loom.read("kept").decode().splitlines() if not line.startswith("shop ")))
+    for words, status in (("judge carried", 1), ("judge carried --carried", 0)):
+        loom.expect(f"{words} --beacon 2026-11-30 bread", status, "has no day by a beacon", absent=("not before",))
+
+
 def cases():
     """All cases of this module."""
-    return [case(work, "weft stamps") for work in (stamped, not_stamped, from_elsewhere, renewed, revoked, in_order)]
+    return [case(work, "weft stamps") for work in (stamped, not_stamped, from_elsewhere, renewed, revoked, in_order, each_night, in_a_turn, not_before, not_before_on_a_word)]

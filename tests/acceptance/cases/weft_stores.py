@@ -484,29 +484,29 @@ def told_of_entries(room):
     loom.expect("log src log data", 0)
     entries, line = loom.read("log.entries"), loom.read("log.anchor")
 
-    def found(status, name="log"):
+    def find_with(status, name="log"):
         told = json.loads(loom.run("check", name, "--json").out)
         if told["status"] != status:
             raise Wrong(f"  {told}")
         return told["entries"], told["disputed"]
 
     wanted = [(0, ("good", []))]
-    seen = [(0, found(0))]
+    seen = [(0, find_with(0))]
     (loom.folder / "log.entries").unlink()
     for words in ("check log", "check log --all"):
         loom.expect(words, 10, "log.entries isn't there, and the store has entries of a log", "weft check --entries log makes it anew")
     loom.expect("log src log", 17)
-    seen.append((10, found(10)))
+    seen.append((10, find_with(10)))
     loom.put("log.entries", entries.replace(b"./a", b"./b"))
-    seen.append((8, found(8)))
+    seen.append((8, find_with(8)))
     loom.put("log.entries", entries)
     loom.put("log.pending", b"1 0\n")
-    seen.append((10, found(10)))
+    seen.append((10, find_with(10)))
     (loom.folder / "log.pending").unlink()
     loom.put("false", line[:-2] + (b"0" if line[-2:-1] != b"0" else b"1") + b"\n")
     loom.expect(["keep", "false", "--by", "letter"], 0)
-    seen.append((17, found(17)))
-    seen.append((0, found(0, "shop")))
+    seen.append((17, find_with(17)))
+    seen.append((0, find_with(0, "shop")))
     wanted += [(10, ("missing", [])), (8, ("differing", [])), (10, ("amid a step", [])), (17, ("not looked at", [1])), (0, ("none", []))]
     if seen != wanted:
         raise Wrong(f"  {seen}")

@@ -155,7 +155,7 @@ def nobody_else_run(room):
     shutil.copytree(downloads / "reference/timeweave_reference", downloads / "share/timeweave/timeweave_reference")
     bare = {name: value for name, value in loom.env.items() if not name.startswith("TIMEWEAVE_")}
 
-    def judged(starter, wanted):
+    def expect_judged(starter, wanted):
         for env in (loom.env, bare):
             words = [starter, "judge", "--reference", "--kept", "../line", "--", "../proof"]
             done = subprocess.run(words, cwd=loom.folder / "here", env=env, capture_output=True, text=True, timeout=LONGEST)
@@ -163,8 +163,8 @@ def nobody_else_run(room):
                 raise Wrong(f"  {starter}\n  got    {done}")
 
     for folder in (downloads, downloads / "share/timeweave"):
-        judged(folder / "weft/bin/weft", (20, 14))
-    judged(TOP / "weft/bin/weft", (20,))
+        expect_judged(folder / "weft/bin/weft", (20, 14))
+    expect_judged(TOP / "weft/bin/weft", (20,))
     for name in ("timeweave", "ssh-keygen"):
         loom.put(f"here/{name}", "#!/bin/sh\necho somebody else was run\n").chmod(0o755)
     for path in (f"{bare['PATH']}:", f".:{bare['PATH']}", f"../here:{bare['PATH']}"):
@@ -178,13 +178,13 @@ def nobody_else_run(room):
         shutil.rmtree(package)
         shutil.copytree(TOP / "reference/timeweave_reference", package, ignore=shutil.ignore_patterns("__pycache__"))
         starter = (folder if folder.name == "timeweave" else downloads) / "weft/bin/weft"
-        judged(starter, (20,))
+        expect_judged(starter, (20,))
         false = loom.put("tmp/fields.py", "raise SystemExit('somebody else was run')\n")
         compiled = importlib.util.cache_from_source(str(package / "fields.py"))
         py_compile.compile(str(false), cfile=compiled, doraise=True, invalidation_mode=py_compile.PycInvalidationMode.UNCHECKED_HASH)
-        judged(starter, (20,))
+        expect_judged(starter, (20,))
         shutil.copy(compiled, package / "fields.pyc")
-        judged(starter, (20, 14))
+        expect_judged(starter, (20, 14))
 
 
 def put_back_alone(room):

@@ -39,7 +39,7 @@ TABLE = {
     "publish": {FORGED: "weft_roads.not_published", BEYOND: "it reads no store", DASH: "weft_signed.dashes"},
     "record": {FORGED: "weft_recording.told_apart", BEYOND: "weft_recording.in_parts", DASH: "weft_signed.dashes"},
     "restore": {FORGED: "weft_backups.made_up", BEYOND: "it reads no history", DASH: "weft_signed.dashes"},
-    "stamp": {FORGED: "weft_stamps.from_elsewhere", BEYOND: "it reads no store", DASH: "weft_signed.dashes"},
+    "stamp": {FORGED: "weft_stamps.from_elsewhere", BEYOND: "it reads no history", DASH: "weft_signed.dashes"},
     "status": {FORGED: "weft_backups.watched", BEYOND: "weft_backups.watched", DASH: "weft_signed.dashes"},
     "tell": {FORGED: "weft_misled.hidden", BEYOND: "it reads no store", DASH: "weft_signed.dashes"},
 }

@@ -7,7 +7,7 @@ import timeweave
 
 import timeweave_reference
 from harness.drawn_pairs import Pair
-from harness.library import reached
+from harness.library import row_difference
 from harness.places import CASES
 
 FOUND_PAIRS = CASES / "found_pairs"
@@ -18,13 +18,15 @@ def wanted(pair):
     return tuple(getattr(timeweave_reference, pair.function)(*pair.parts))
 
 
+def row_of_pair(pair):
+    """What the library is asked of a pair, and what it has to answer; the forms' letters are the first ones of their functions."""
+    status, text = wanted(pair)
+    return pair.function[0], status, pair.parts, text
+
+
 def difference(pair):
     """What the library answers else than the reference, or what the module for Python makes of it else, or None."""
-    status, text = wanted(pair)
-    found, again = reached(f"timeweave_{pair.function}", pair.parts)
-    if found != (status, text):
-        return f"  wanted {status} {text!r}\n  the library answers {found}"
-    return None if again == text.decode() else f"  of {text!r}\n  the module for Python makes {again!r}"
+    return row_difference(row_of_pair(pair))
 
 
 def names_innocent(recipe, pair):

@@ -22,7 +22,7 @@ class Asked(dict):
         return self[key]
 
 
-def asked(name, words, files):
+def make_case(name, words, files):
     """The case of these words over files, as the reference answers them."""
     return Asked({"name": name, "files": files, "words": words})
 
@@ -64,14 +64,14 @@ def told_first(case, text):
 # ---- proofs
 
 
-def judged(name, data, service, pos, auth):
+def make_proof_case(name, data, service, pos, auth):
     """The case of a proof under one line."""
-    return asked(name, ["verify", "p", service, str(pos), auth.hex()], {"p": data})
+    return make_case(name, ["verify", "p", service, str(pos), auth.hex()], {"p": data})
 
 
 def judged_under(name, data, anchors, form="verify"):
     """The case of a proof under a file of anchors, in the form `verify` or `strict`."""
-    return asked(name, [form, "p", "k"], {"p": data, "k": anchors_to_bytes(anchors)})
+    return make_case(name, [form, "p", "k"], {"p": data, "k": anchors_to_bytes(anchors)})
 
 
 # ---- groups

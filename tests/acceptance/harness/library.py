@@ -3,19 +3,15 @@
 import subprocess
 import timeweave
 
-from harness.places import LONGEST, TOP
+from harness.places import TOP
 from harness.rooms import Skipped, Wrong
 
 ARCHIVE, SHARED = TOP / "lib/libtimeweave.a", TOP / "lib/libtimeweave.so"
 # The statuses with which the program has judged a proof, or its anchors.
 JUDGED = (timeweave.ACCEPTED, timeweave.REJECTED, timeweave.BAD_ANCHORS)
 
-# The small proofs that were judged so far, as (form, status, proof, anchors, text); C tries some of each status and text.
-TRIED = []
-
-# The same of maps, of evidence, and of files that were held against each other, as (form, status, files, text).
-REACHED = []
-LARGEST, MOST = 20_000, 400
+# What C tries: at most so many questions, some of each status and text.
+MOST = 400
 
 # By the form of a record for C the function of the library that it is for.
 FUNCTIONS = {
@@ -31,16 +27,39 @@ def is_built():
     return ARCHIVE.exists() and SHARED.exists()
 
 
-# ---- each proof of the run
+# ---- what the library is asked, as rows: the form, the status and the text that it has to answer, and the files
 
 
 def asked_of(words, files):
-    """The form, and the bytes of the proof and of the anchors file, of words that ask for a verdict; the anchors of one line are that line."""
+    """The form and the files of words that ask for a verdict; the anchors of one line are that line."""
     if words[:1] == ["verify"] and len(words) == 5:
-        return "v", files.get(words[1]), " ".join(words[2:]).encode(errors="surrogateescape")
+        return "v", [files.get(words[1]), " ".join(words[2:]).encode(errors="surrogateescape")]
     if words[:1] in (["verify"], ["strict"]) and len(words) == 3:
-        return words[0][0], files.get(words[1]), files.get(words[2])
-    return None, None, None
+        return words[0][0], [files.get(word) for word in words[1:]]
+    if words[:1] and words[0] in REACHING and len(words) == 1 + len(REACHING[words[0]][1]):
+        return REACHING[words[0]][0], [files.get(word) for word in words[1:]]
+    return None, [None]
+
+
+def row_of(words, files, status, output):
+    """What the library is asked where the program is asked so, and what it has to answer; or None. In the library's text the files have names of their own."""
+    form, given = asked_of(words, files)
+    if form is None or None in given or status not in JUDGED:
+        return None
+    if status == timeweave.BAD_ANCHORS and form in "vs":
+        output = b"unreadable anchors line " + output.split(b" ")[-1]
+    elif status == timeweave.BAD_ANCHORS:
+        told = output.split(b" ")
+        own = [name for name, word in zip(REACHING[words[0]][1], words[1:]) if word.encode(errors="surrogateescape") == told[1]]
+        if len(own) != 1:
+            return None
+        output = b" ".join([told[0], own[0].encode(), *told[2:]])
+    return form, status, given, output
+
+
+def judge(form, files):
+    """What the library answers to the files of a form."""
+    return timeweave.library().judge(*files, form == "s") if form in "vs" else timeweave.library().ask(FUNCTIONS[form], *files)
 
 
 def written(report):
@@ -75,16 +94,13 @@ def taken_apart(status, text):
         return str(wrong)
 
 
-def reached(function, files):
-    """The text of the library's answer to files, made of what the module for Python makes of it; and the answer."""
-    status, text = timeweave.library().ask(function, *files)
+def taken_apart_of(function, status, text):
+    """The text of an answer on maps, evidence or a contradiction, made of what the module for Python makes of it."""
     try:
-        made = timeweave.read_answer(function, status, text.decode())
-        lines = written_reached(made)
+        return written_reached(timeweave.read_answer(function, status, text))
     except (timeweave.Rejected, timeweave.BadAnchors, timeweave.BadFile) as reason:
         head = "rejected" if isinstance(reason, timeweave.Rejected) else "unreadable"
-        lines = f"{head} {'anchors ' if vars(reason).get('file') == 'anchors' else ''}{reason}\n"
-    return (status, text), lines
+        return f"{head} {'anchors ' if vars(reason).get('file') == 'anchors' else ''}{reason}\n"
 
 
 def written_reached(made):
@@ -113,59 +129,31 @@ def written_said(said):
     return f"{said.what} {said.service} {said.step} {said.digest.hex()}\n"
 
 
-def reach_difference(form, files, status, output):
-    """What the library answers else than is wanted to the files of this form, or None."""
-    found, again = reached(FUNCTIONS[form], files)
-    if sum(map(len, files)) + len(output) <= LARGEST:
-        REACHED.append((form, status, files, output))
-    if found != (status, output):
-        return f"  wanted {status} {output!r}\n  the library answers {found}"
-    return None if again == output.decode() else f"  of {output!r}\n  the module for Python makes {again!r}"
-
-
-def map_or_fork_difference(words, files, status, output):
-    """What the library answers else than the program did to the words of `checkmap` or `checkfork`, or None. In the library's text the files
-    have names of their own."""
-    form, names = REACHING[words[0]]
-    given = [files.get(word) for word in words[1:]]
-    if status not in JUDGED or len(given) != len(names) or None in given or not is_built():
-        return None
-    if status == timeweave.UNREADABLE:
-        named = output.split(b" ")[1].decode(errors="surrogateescape")
-        own = [name for name, word in zip(names, words[1:]) if word == named]
-        if len(own) != 1:
-            return None
-        output = b" ".join([b"unreadable", own[0].encode(), *output.split(b" ")[2:]])
-    return reach_difference(form, given, status, output)
+def row_difference(row):
+    """What the library answers else than it has to, or the module for Python makes else of it, or None."""
+    form, status, files, text = row
+    found = judge(form, files)
+    if found != (status, text):
+        return f"  wanted {status} {text!r}\n  the library answers {found}"
+    again = taken_apart(status, text.decode()) if form in "vs" else taken_apart_of(FUNCTIONS[form], status, text.decode())
+    return None if again == text.decode() else f"  of {text!r}\n  the module for Python makes {again!r}"
 
 
 def difference(words, files, status, output):
-    """What the library answers else than the program did, or None. In the library's text the anchors file is always `anchors`."""
-    if words[:1] and words[0] in REACHING:
-        return map_or_fork_difference(words, files, status, output)
-    form, proof, anchors = asked_of(words, files)
-    if status not in JUDGED or proof is None or anchors is None or not is_built():
-        return None
-    if status == timeweave.BAD_ANCHORS:
-        output = b"unreadable anchors line " + output.split(b" ")[-1]
-    found = timeweave.library().judge(proof, anchors, form == "s")
-    if max(len(proof), len(output)) <= LARGEST:
-        TRIED.append((form, status, proof, anchors, output))
-    if found != (status, output):
-        return f"  the program answers {status} {output!r}\n  the library  {found}"
-    again = taken_apart(status, output.decode())
-    return None if again == output.decode() else f"  of {output!r}\n  the module for Python makes {again!r}"
+    """What the library answers else than the program did, or None."""
+    row = row_of(words, files, status, output) if is_built() else None
+    return row_difference(row) if row else None
 
 
 # ---- in C
 
 
-def chosen():
-    """Small proofs of this run, most of them of different texts, as the file that library_calls.c reads."""
-    rows = {}
-    for form, status, files, text in [*((form, status, (proof, anchors), text) for form, status, proof, anchors, text in TRIED), *REACHED]:
-        rows.setdefault((form, status, *text.split(b" ")[:3]), []).append((form, status, *files, text))
-    least = [row for group in rows.values() for row in group[: max(2, MOST // len(rows))]][:MOST]
+def chosen(rows):
+    """Some of these rows, most of them of different texts, as the file that library_calls.c reads."""
+    groups = {}
+    for form, status, files, text in rows:
+        groups.setdefault((form, status, *text.split(b" ")[:3]), []).append((form, status, *files, text))
+    least = [row for group in groups.values() for row in group[: max(2, MOST // len(groups))]][:MOST]
     spans = lambda row: b"".join(len(data).to_bytes(4, "big") + data for data in row[2:])  # noqa: E731
     return b"".join(row[0].encode() + bytes([row[1]]) + spans(row) for row in least)
 

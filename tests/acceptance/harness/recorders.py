@@ -19,7 +19,7 @@ from harness.rooms import Skipped, Wrong
 from timeweave_reference.histories import read_history
 
 # A writer: each event is told to a file before it is handed over, and where it stands once that is known. What has a key is handed over until it is. It ends once there is a
-# file `stop`, or so many events are made.
+# file `stop`, or so many events are made. Every fourth event has no key, or, where a sixth word says so, none has one.
 WRITER = """
 import collections, hashlib, os, sys, time, timeweave
 name, count, weft, tries, service = sys.argv[1], int(sys.argv[2]), sys.argv[3], int(sys.argv[4]), sys.argv[5]
@@ -32,7 +32,7 @@ lines = [line.split() for line in open(name + ".told")]
 done = {words[1] for words in lines if words[0] == "at"}
 keys = dict.fromkeys(words[2] for words in lines if words[0] == "handed" and words[2] != "-")
 waiting = collections.deque((event_of(key), key, tries) for key in keys if key not in done)
-first = max([int(words[2].split("-")[1]) for words in lines if words[0] == "handed" and words[2] != "-"], default=-1) + 1
+first = max([int(words[1 if words[2] == "-" else 2].split("-")[1]) for words in lines if words[0] == "handed"], default=-1) + 1
 numbers = iter(range(first, count))
 def another():
     if waiting:
@@ -41,7 +41,7 @@ def another():
     if number is None:
         return None
     time.sleep(0.002)
-    return (f"{name}-{number}-{os.getpid()}".encode(), "", 1) if number % 4 == 3 else (event_of(f"{name}-{number}"), f"{name}-{number}", tries)
+    return (f"{name}-{number}-{os.getpid()}".encode(), "", 1) if number % 4 == 3 or len(sys.argv) > 6 else (event_of(f"{name}-{number}"), f"{name}-{number}", tries)
 def opened():
     for _ in range(tries):
         try:
@@ -111,8 +111,8 @@ def is_program(number):
 class Writers:
     """Processes that work in a folder and record in the service `s`, there or in another one."""
 
-    def __init__(self, folder, program, count, each=1 << 30, tries=1_000, place=None):
-        self.folder, self.place, self.each, self.tries = Path(folder), Path(place or folder), each, tries
+    def __init__(self, folder, program, count, each=1 << 30, tries=1_000, place=None, have_keys=True):
+        self.have_keys, self.folder, self.place, self.each, self.tries = have_keys, Path(folder), Path(place or folder), each, tries
         self.weft = self.folder / "weft-here"
         self.weft.write_text(f'#!/bin/sh\nexec {sys.executable} -P {TOP}/weft/bin/weft "$@"\n')
         self.weft.chmod(0o755)
@@ -125,7 +125,7 @@ class Writers:
 
     def start(self, name):
         """Starts a writer, which goes on from what it was told before."""
-        words = [sys.executable, "-c", WRITER, name, str(self.each), self.weft, str(self.tries), self.place / "s"]
+        words = [sys.executable, "-c", WRITER, name, str(self.each), self.weft, str(self.tries), self.place / "s", *([] if self.have_keys else ["no keys"])]
         with open(self.folder / f"{name}.errors", "ab") as errors:
             return subprocess.Popen(words, cwd=self.folder, env=self.env, stdout=errors, stderr=errors)
 
@@ -259,10 +259,10 @@ def expect_good(writers, program, steps):
             raise Wrong(f"  weft {words[0]}: {done.returncode} {done.stdout[-500:]} {done.stderr[-800:]}")
 
 
-def killed_often(folder, program, kills, seed, tell=lambda text: None):
-    """Kills so many processes of writers at drawn moments; answers what was killed, and what the auditor counted."""
+def killed_often(folder, program, kills, seed, tell=lambda text: None, have_keys=True):
+    """Kills so many processes of writers at drawn moments; answers what was killed, and what the auditor counted. Events that have no keys are handed over once."""
     drawn = random.Random(f"kills {seed}")
-    writers = Writers(folder, program, 4)
+    writers = Writers(folder, program, 4, have_keys=have_keys)
     try:
         while (count := sum(writers.killed.values())) < kills:
             time.sleep(drawn.uniform(0, 0.6))

@@ -154,7 +154,7 @@ def difference(program, trial):
     return None
 
 
-def told(trial, differs):
+def describe_trial(trial, differs):
     """The commands up to the one that differs, what is wanted there and what was found."""
     number, said, found = differs
     lines = [f"  $ timeweave {' '.join(map(repr, words))}" + (f" > {kept}" if kept else "") for words, kept in trial.commands[:number]]

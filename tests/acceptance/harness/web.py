@@ -16,9 +16,6 @@ MODULE, PAGE = WEB / "timeweave.wasm", WEB / "timeweave.html"
 # The functions of the library by the letters that the process takes.
 FUNCTIONS = {"v": "verify", "s": "strict", "m": "checkmap", "f": "checkfork", "c": "contradict", "r": "receiver"}
 
-# The commands over several files, each with its letter and the names that texts of the library have for its files.
-OVER_FILES = {"checkmap": ("m", ("low", "high", "anchors")), "checkfork": ("f", ("evidence", "anchors"))}
-
 
 class Asked:
     """One process of Node that judges what it is given."""
@@ -56,7 +53,7 @@ def has(form):
     return f"timeweave_{FUNCTIONS[form]}".encode() in MODULE.read_bytes()
 
 
-def asked():
+def start_node():
     """The process, begun once."""
     with STARTING:
         if not ASKED:
@@ -64,32 +61,18 @@ def asked():
     return ASKED[0]
 
 
-def question_of(words, files, output):
-    """The letter and the files of words that ask for a verdict, and the program's text as the library says it, which has names of its own for files."""
-    if words[:1] and words[0] in OVER_FILES:
-        form, names = OVER_FILES[words[0]]
-        given = [files.get(word) for word in words[1:]] if len(words) == len(names) + 1 else [None]
-        told = output.split(b" ")
-        if told[0] == b"unreadable":
-            own = [name for name, word in zip(names, words[1:]) if word.encode(errors="surrogateescape") == told[1]]
-            output = b" ".join([told[0], own[0].encode(), *told[2:]]) if len(own) == 1 else None
-        return form, given, output
-    form, *given = library.asked_of(words, files)
-    return form, given, b"unreadable anchors line " + output.split(b" ")[-1] if output.startswith(b"unreadable") else output
-
-
 def difference(words, files, status, output):
     """What the module answers else than the program did, or None."""
-    form, given, wanted = question_of(words, files, output)
-    if form is None or None in given or wanted is None or status not in library.JUDGED or not is_built() or not has(form):
+    row = library.row_of(words, files, status, output) if is_built() else None
+    if row is None or not has(row[0]):
         return None
-    found = asked().judge([(form, *given)])[0]
+    form, _, given, wanted = row
+    found = start_node().judge([(form, *given)])[0]
     return None if found == (status, wanted) else f"  the program answers {status} {output!r}\n  the module   {found}"
 
 
 def built():
     """Whether it is built, and what tries it is here; the case is skipped where it isn't."""
     needs("node", "nodejs")
-    needs("wasm-opt", "binaryen")
     if not is_built():
         raise Skipped("the page isn't built: `make page`")

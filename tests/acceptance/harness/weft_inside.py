@@ -132,7 +132,7 @@ class Inside:
         """Puts it in the place of what weft asks, and takes it away again. Files that are logged have come to rest: what they are has a mark."""
         moment = time.time_ns
         changes = [
-            (program, "run", self.answer), (program, "counted", self.counted), (program, "found", lambda: self.env["TIMEWEAVE_PROGRAM"]),
+            (program, "run", self.answer), (program, "counted", self.counted), (program, "find_program", lambda: self.env["TIMEWEAVE_PROGRAM"]),
             (judges, "bench", self.bench), (signatures, "keygen", functools.partial(self.keygen, signatures.keygen)), (directories, "read_file", self.read_store),
             (directories, "renew_if_other", self.renew_store), (time, "time", lambda: self.moment), (texts, "datetime", self.dated()), (lines, "ONE_SECOND", 0.0),
             (reference_words, "kinds_of_forms", lambda: FORMS),

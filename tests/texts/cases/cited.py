@@ -8,7 +8,7 @@ from harness.places import TOP
 from harness.rooms import checked
 
 DOCUMENTS = [TOP / "README.md", TOP / "reference/README.md", TOP / "web/README.md", TOP / "vectors/README.md", *sorted((TOP / "docs").glob("*.md")), *sorted((TOP / "bench").glob("*.md"))]
-SOURCES = ("crates/*/src/**/*.rt", "crates/*/specs/**/*.antt", "crates/*/proofs/**/*.antt", "tests/**/*.py", "tests/acceptance/cases/promised.txt", "reference/**/*.py", "weft/**/*.py", "web/tests/*.*", "tools/*.*", "bench/*.py", "docs/*.txt")
+SOURCES = ("crates/*/src/**/*.rt", "crates/*/specs/**/*.antt", "crates/*/proofs/**/*.antt", "tests/**/*.py", "tests/texts/cases/promised.txt", "reference/**/*.py", "weft/**/*.py", "web/tests/*.*", "tools/*.*", "bench/*.py", "docs/*.txt")
 CRATE = re.compile(r"`(tw_\w+|timeweave(?:_c)?)\b")
 NAMES = r"(?:`\w+`(?:,\s+|\s+and\s+)?)+"
 PATH = re.compile(r"(?<![\w/.$])(?:crates|tests|tools|specs|docs|bench|examples|reference|proofs|src|must-fail|cases|harness|tw_\w+)/[\w.*/-]*\w")
@@ -103,7 +103,7 @@ def paths(program):
     for document in DOCUMENTS:
         for path in named_paths(document.read_text()):
             pattern = re.sub(r"\b[A-Z]+\b", "*", path)
-            places = [pattern, f"crates/{pattern}", f"crates/*/{pattern}", f"tests/acceptance/{pattern}"]
+            places = [pattern, f"crates/{pattern}", f"crates/*/{pattern}", f"tests/acceptance/{pattern}", f"tests/texts/{pattern}"]
             if not any(next(TOP.glob(place + end), None) for place in places for end in ("", ".antt")):
                 wrong.append(f"  {document.name}: {path}")
     return "\n".join(wrong) or None

@@ -12,7 +12,6 @@ from pathlib import Path
 import claims
 import declared
 import definitions
-import placed
 import proved_by
 from harness.places import LONGEST, TOP
 from harness.rooms import Skipped, Wrong, case, checked, needs
@@ -21,9 +20,9 @@ DOCUMENTS = [TOP / "README.md", TOP / "reference/README.md", TOP / "web/README.m
 
 
 # The most words of all documents and manual pages together, those that tools write among them, but for docs/theorem.md: that has a limit of its own
-# (tools/theorem.py). (The table of the names that stand otherwise, and what each party can do, have some 2,500 of them; how a file is opened, which
+# (tools/theorem.py); and but for the tables of bench/RESULTS.md, which have as many rows as are measured. (The table of the names that stand otherwise, and what each party can do, have some 2,500 of them; how a file is opened, which
 # trust.md prints whole, some 300; the manual of `list`, `record`, `find`, `backup`, `restore`, `status`, `publish` and `fetch` some 2,000.)
-MOST_WORDS = 67_500
+MOST_WORDS = 65_940
 
 # The documents that name what others have by the words of these.
 OF_OTHERS = ("glossary.md", "comparing.md")
@@ -49,17 +48,26 @@ def links(program):
     return "\n".join(wrong) or None
 
 
-def installed_links(program):
-    """The links of the installed documents that lead nowhere. (The licence is what Debian calls `copyright`.)"""
-    places = {line.place.removeprefix("DOC/"): TOP / line.source for line in placed.table() if line.place.startswith("DOC/")}
-    known = {"LICENSE", *places, *(str(folder) for place in places for folder in Path(place).parents)}
-    return "\n".join(
-        f"  {place}: {target}" for place, source in places.items() if place.endswith(".md") and source.exists()
-        for target in re.findall(r"\]\(([^)#:]+)(?:#[^)]*)?\)", source.read_text()) if os.path.normpath(f"{Path(place).parent}/{target}") not in known
-    ) or None  # fmt: skip
+def installed_links(room):
+    """each link of the installed documents leads to a file and a heading there"""
+    if not shutil.which("make"):
+        raise Skipped("there is no make (Debian: make)")
+    subprocess.run(["make", "-s", "install-documents", "install-python", f"PREFIX={room.folder}"], cwd=TOP, check=True, capture_output=True, timeout=LONGEST)
+    for name, made in (("claims", claims), ("definitions", definitions)):
+        declared.write_or_print(made.page([]), room.folder / f"share/doc/timeweave/tables/{name}.md")
+    folder, wrong, count = room.folder / "share/doc/timeweave", [], 0
+    for document in sorted(folder.rglob("*.md")):
+        for target in re.findall(r"\]\(([^)]+)\)", document.read_text()):
+            path, _, anchor = target.partition("#")
+            goal = (document.parent / path).resolve() if path else document
+            count += 1
+            if not re.match(r"\w+:", target) and (not goal.is_relative_to(folder) or not goal.exists() or anchor and goal.suffix == ".md" and anchor not in anchors(goal)):
+                wrong.append(f"  {document.relative_to(folder)}: {target}")
+    if wrong or count < 50:
+        raise Wrong("\n".join([*wrong, f"  {count} links"]))
 
 
-def shown(text):
+def read_examples(text):
     """The commands of the README's examples, each with the output below it; an example is a block of code that begins with a command."""
     steps = []
     for block in re.findall(r"(?:^    .*\n)+", text, re.M):
@@ -81,7 +89,7 @@ def is_shown(output, got):
 
 def tutorial(program):
     """Runs the README's examples, and tells where they give something else than it shows."""
-    steps = shown((TOP / "README.md").read_text())
+    steps = read_examples((TOP / "README.md").read_text())
     script = "".join(f"{command}\nlast=$?; echo '=== end of step'; (exit $last)\n" for command, _ in steps)
     script = script.replace("$PWD/bin", os.path.dirname(program))
     ran = subprocess.run(["bash", "-c", script], cwd=TOP, capture_output=True, text=True, timeout=LONGEST)
@@ -96,7 +104,7 @@ def hour(room):
         needs(name, package)
     whole = (TOP / "docs/trust.md").read_text().split("\n## One hour\n")[1].split("\n## ")[0]
     text = re.sub(r"^    (?!\$ )(?:python3|grep) .*\n", "", whole, flags=re.M)
-    steps = [step for step in shown(text) if shutil.which("go") or "event_roots" not in step[0]]
+    steps = [step for step in read_examples(text) if shutil.which("go") or "event_roots" not in step[0]]
     script = "".join(f"{command}\necho '=== end of step'\n" for command, _ in steps)
     settings = {"cwd": TOP, "env": {**os.environ, "TMPDIR": str(room.folder)}, "timeout": LONGEST}
     ran = subprocess.run(["bash", "-c", script], capture_output=True, text=True, **settings)
@@ -121,7 +129,7 @@ def tried_on_vectors(program, text):
 def made(program):
     """The documents whose pictures aren't those of their data, or whose forms aren't those of tools/forms.txt."""
     wrong = []
-    for script in ("tools/pictures.py", "bench/picture.py", "tools/forms.py"):
+    for script in ("tools/pictures.py", "bench/page.py", "tools/forms.py"):
         ran = subprocess.run([sys.executable, TOP / script, "--check"], capture_output=True, text=True, timeout=300)
         wrong += [f"  python3 {script} --check\n{ran.stdout}{ran.stderr}"] * bool(ran.returncode)
     return "\n".join(wrong) or None
@@ -182,7 +190,9 @@ def pages():
 
 def words(program):
     """How many words all documents have, where they are more than may be."""
-    counts = {page.relative_to(TOP): len(page.read_text().split()) for page in pages() if page.name != "theorem.md"}
+    texts = {page: page.read_text() for page in pages() if page.name != "theorem.md"}
+    texts[TOP / "bench/RESULTS.md"] = re.sub(r"^\|.*", "", texts[TOP / "bench/RESULTS.md"], flags=re.M)
+    counts = {page.relative_to(TOP): len(text.split()) for page, text in texts.items()}
     told = ", ".join(f"{page} {count}" for page, count in counts.items())
     return f"  {sum(counts.values())} words, at most {MOST_WORDS} are allowed: {told}" if sum(counts.values()) > MOST_WORDS else None
 
@@ -227,7 +237,6 @@ def without_program():
     """The cases that need no built program."""
     checks = {
         "links": links,
-        "links of what is installed": installed_links,
         "pictures and forms": made,
         "pages of clauses and definitions": of_sources,
         "times": times,
@@ -238,6 +247,7 @@ def without_program():
         "how a file is opened": opening,
     }
     yield from checked("documents", checks)
+    yield case(installed_links, "documents")
     yield from (case(work, "documents") for work in (kit, kits, hour))
 
 

@@ -3,6 +3,7 @@ of, tests stand in crates of their own, crates are small, no chain of crates is 
 one name, little stands twice, want of memory has a cause, the gate tries one wrong body of a crate and those that are named here, and each worked example has its
 tests."""
 
+import ast
 import json
 import os
 import re
@@ -19,12 +20,12 @@ import same_bodies
 import theorem
 import twins
 import wrong_bodies
-from pictures import crates, height
+from crates import height, read_crates
 
 from cases.worked import ROWS
 from harness.places import ACCEPTANCE, TOP
 from harness.rooms import checked
-from harness.ways_out import other_ways, unfound
+from texts.ways_out import other_ways, unfound
 
 LONGEST = 40
 
@@ -134,7 +135,7 @@ def size(name):
 def crate_sizes(program):
     """The crates that are larger than they may be, and those that are no longer among the large ones."""
     wrong = []
-    for name in crates():
+    for name in read_crates():
         lines, count = size(name)
         most_lines, most_count = LARGE.get(name, (MOST_LINES, MOST_FUNCTIONS))
         if lines > most_lines or count > most_count:
@@ -147,7 +148,7 @@ def crate_sizes(program):
 def handed_out(program):
     """The free functions of libraries that say `pub` and that their crate doesn't hand out: within a crate they are `pub(crate)`."""
     wrong = []
-    for crate in (name for name in crates() if (TOP / "crates" / name / "src/lib.rt").exists()):
+    for crate in (name for name in read_crates() if (TOP / "crates" / name / "src/lib.rt").exists()):
         texts = {path: path.read_text() for path in files("*.rt") if f"/crates/{crate}/src/" in str(path)}
         given = set(re.findall(r"\w+", " ".join(use for text in texts.values() for use in re.findall(r"pub use [^;]*;", text))))
         for path, text in texts.items():
@@ -220,11 +221,11 @@ def names_twice(program):
 
 def bodies_twice(program):
     """The definitions, and the functions of the code, that have one body and two names; and the types of code that stand in two files."""
-    definitions, functions, types = same_bodies.found()
-    wrong = [f"  {same_bodies.told(where)} have one body" for where in definitions + functions]
+    definitions, functions, types = same_bodies.find_twice()
+    wrong = [f"  {same_bodies.name_places(where)} have one body" for where in definitions + functions]
     listed = TYPES_TWICE.split()
     twice = {where[0][0]: where for where in types}
-    wrong += [f"  {same_bodies.told(twice[name])} have one name" for name in sorted(set(twice).difference(listed))]
+    wrong += [f"  {same_bodies.name_places(twice[name])} have one name" for name in sorted(set(twice).difference(listed))]
     wrong += [f"  {name} is one type of the code, and goes from TYPES_TWICE" for name in sorted(set(listed).difference(twice))]
     wrong += [f"  {len(listed)} names stand for two types, at most {MOST_TYPES_TWICE} may"] * (len(listed) > MOST_TYPES_TWICE)
     return "\n".join(wrong) or None
@@ -362,7 +363,7 @@ TESTED = {
 
 def bodies_of_gate(program):
     """The crates of which the gate tries more than one wrong body that isn't named, and what is named and not there."""
-    there = {f"{name}/{edit}" for name in crates() for edit in wrong_bodies.bodies_of_gate(name)}
+    there = {f"{name}/{edit}" for name in read_crates() for edit in wrong_bodies.bodies_of_gate(name)}
     others = [body.split("/")[0] for body in there - set(NAMED)]
     wrong = [f"  {name} has {others.count(name)} besides those that are named, one is allowed" for name in sorted(set(others)) if others.count(name) > 1]
     wrong += [f"  crates/{body.replace('/', '/must-fail/')}.edit isn't there" for body in NAMED if body not in there]
@@ -372,10 +373,10 @@ def bodies_of_gate(program):
 
 def fitting_bodies(program):
     """The wrong bodies that don't fit the sources, and those of the gate that leave out something else than tools/leave_out.py would have them leave out."""
-    unfit = wrong_bodies.unfit_bodies(crates())
+    unfit = wrong_bodies.unfit_bodies(read_crates())
     if unfit:
         return "\n".join(f"  {why}" for why in unfit)
-    edits = [path for name in crates() for path in leave_out.edits(name)]
+    edits = [path for name in read_crates() for path in leave_out.edits(name)]
     stale = [path.relative_to(TOP) for path in edits if path.read_text() != leave_out.whole(path)]
     return "\n".join(f"  {path}: `python3 tools/leave_out.py {path.parts[1]}`" for path in stale) or None
 
@@ -390,7 +391,7 @@ def counted_bodies(program):
     wrong = []
     for name in COUNTING:
         found = [{int(number) for number in pattern.findall((TOP / name).read_text())} for pattern in COUNTED]
-        if not found[0] or any(told - {count} for told, count in zip(found, wrong_bodies.counts(crates()))):
+        if not found[0] or any(told - {count} for told, count in zip(found, wrong_bodies.counts(read_crates()))):
             wrong.append(f"  {name} tells of {found[0] or 'no'} chosen wrong bodies and of {found[1] or 'no'} others; `python3 tools/wrong_bodies.py --list` counts them")
     return "\n".join(wrong) or None
 
@@ -482,7 +483,7 @@ def bodies_together(program):
     """What is wrong with how wrong bodies are tried: each once, together or alone; those of a batch in functions of their own, and refused by the
     prover's word of these."""
     wrong = []
-    for name in crates():
+    for name in read_crates():
         crate, bodies = leave_out.Crate(name), {edit: leave_out.body_of(text) for edit, text in wrong_bodies.all_bodies(name).items()}
         found, alone = body_batches.batches(crate, bodies)
         turned = sum(len(set(functions)) for batch in found for _, functions in batch.edits.values())
@@ -530,7 +531,7 @@ def worked_examples(program):
 
 def heights(program):
     """The crates at the end of a chain that is too long."""
-    known = crates()
+    known = read_crates()
     wrong = {name: height(name, known) for name in known if height(name, known) > MOST_HEIGHT}
     return "\n".join(f"  {name} stands at {at}, at most {MOST_HEIGHT} is allowed" for name, at in wrong.items()) or None
 
@@ -565,7 +566,7 @@ def halves_of_a_run(program):
     return "\n".join(f"  {path}: {name} isn't as it has to be: {found}" for path, name, lines, found in said if found != lines) or None
 
 
-def what_stands_twice(program):
+def count_what_stands_twice(program):
     """How many pairs of files share six lines in a row, where these are more than there may be."""
     count = len(twins.pairs())
     return f"  {count} pairs, at most {MOST_TWINS} are allowed: `python3 tools/twins.py`" if count > MOST_TWINS else None
@@ -602,6 +603,25 @@ def modules_to_skip(program):
     return "\n".join(wrong) or None
 
 
+# Words by which no function is called: a function does something, and to what is told by its name. (Properties are called by what they are.)
+BARE, NAMED_IN = {"told", "asked", "shown", "judged", "found"}, ("weft", "tests", "tools", "bench", "reference")
+
+
+def is_property(function):
+    """Whether a function is read as a value."""
+    return any("property" in ast.unparse(decorator) for decorator in function.decorator_list)
+
+
+def bare_names(program):
+    """The functions that are called by a bare participle."""
+    wrong = []
+    for path in files("*.py"):
+        if path.relative_to(TOP).parts[0] in NAMED_IN:
+            named = (it for it in ast.walk(ast.parse(path.read_text())) if isinstance(it, ast.FunctionDef) and it.name in BARE)
+            wrong += [f"  {path.relative_to(TOP)}:{it.lineno}: {it.name}" for it in named if not is_property(it)]
+    return "\n".join(wrong) or None
+
+
 # What tells which modules of cases run.
 RUNNING = ("run.py", "cases/weft.py")
 
@@ -609,7 +629,7 @@ RUNNING = ("run.py", "cases/weft.py")
 def modules_that_run(program):
     """The modules of cases that nothing runs."""
     lists = [names for path in RUNNING for names in re.findall(r"^(?:MODULES|LATER) = \((.*?)\)", (ACCEPTANCE / path).read_text(), re.M | re.S)]
-    there = {path.stem for path in (ACCEPTANCE / "cases").glob("*.py")} - {"__init__"}
+    there = {path.stem for folder in (ACCEPTANCE, TOP / "tests/texts") for path in (folder / "cases").glob("*.py")} - {"__init__"}
     return "\n".join(f"  {name}" for name in sorted(there.difference(*(re.findall(r"\w+", names) for names in lists)))) or None
 
 
@@ -618,6 +638,7 @@ def cases():
         "the theorem on one page": one_page,
         "modules that needn't be read": modules_to_skip,
         "modules of cases": modules_that_run,
+        "names of functions": bare_names,
         "long functions": long_functions,
         "attributes": wide_attributes,
         "files of lemmas": lemma_files,
@@ -637,7 +658,7 @@ def cases():
         "names of definitions": names_twice,
         "the halves of a run": halves_of_a_run,
         "bodies with two names": bodies_twice,
-        "what stands twice": what_stands_twice,
+        "what stands twice": count_what_stands_twice,
         "packages that weft knows": known_to_weft,
         "the one way out of weft": one_way_out,
     }

@@ -5,12 +5,11 @@ import re
 from functools import lru_cache
 from typing import NamedTuple
 
-from pictures import below_all, crates
-
+from crates import below_all, read_crates
 from harness.places import TOP
 from harness.rooms import checked
 
-LIST = TOP / "tests/acceptance/cases/promised.txt"
+LIST = TOP / "tests/texts/cases/promised.txt"
 TOLD = "Names that stand otherwise"
 
 # What stands for one type under several names, by the type.
@@ -126,7 +125,7 @@ def handed_out(crate):
             whole = [f"{path}::{name.strip()}" for name in names.split(",") if name.strip()] if names else [path]
             for it in whole:
                 first, last = it.split("::")[0], it.split("::")[-1]
-                found[last] = first if first in crates() else crate
+                found[last] = first if first in read_crates() else crate
     return found
 
 
@@ -173,7 +172,7 @@ def kept(program):
     """The promised names that don't stand as the list has them."""
     wrong = []
     for promise in promises():
-        if promise.stands not in crates():
+        if promise.stands not in read_crates():
             wrong.append(f"  {promise.crate}: {promise.form}: there is no crate {promise.stands}")
         elif not is_there(promise.stands, promise.has):
             wrong.append(f"  {promise.stands} doesn't hand out {promise.has}")
@@ -182,7 +181,7 @@ def kept(program):
 
 def offered(program):
     """The promised names that stand in their own form in a crate below the one that was to have them: it could hand them out."""
-    could = [it for it in promises() if it.has == it.form and it.stands in below_all(it.crate, crates())]
+    could = [it for it in promises() if it.has == it.form and it.stands in below_all(it.crate, read_crates())]
     return "\n".join(f"  {it.crate} could hand out {it.form} of {it.stands}" for it in could) or None
 
 
@@ -192,7 +191,7 @@ def named(program):
     return "\n".join(f"  neither {it.crate} nor {it.stands} hands out {head_of(it.form)}" for it in gone) or None
 
 
-def told(program):
+def compare_rows(program):
     """The names that stand otherwise without a row in DECISIONS, and whether there are more than there may be."""
     text = (TOP / "docs/DECISIONS.md").read_text().partition(f"## {TOLD}")[2].partition("\n## ")[0]
     otherwise = {head_of(it.form) for it in promises() if it.is_otherwise}
@@ -203,4 +202,4 @@ def told(program):
 
 
 def cases():
-    yield from checked("promised", {"names": kept, "names of other forms": named, "what could be handed out": offered, "what stands otherwise is told": told})
+    yield from checked("promised", {"names": kept, "names of other forms": named, "what could be handed out": offered, "what stands otherwise is told": compare_rows})

@@ -3,9 +3,9 @@ manual pages has more than 40 words. Tables and code may be wider; theorems, whi
 
 import re
 
-from cases.documents import DOCUMENTS
 from harness.places import MANUAL, TOP
 from harness.rooms import checked
+from texts.cases.documents import DOCUMENTS
 
 WIDTH, MOST_WORDS = 120, 40
 
